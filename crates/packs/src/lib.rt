@@ -1,0 +1,10 @@
+// Packs of rules: a checked view of a pack's bytes, and what is refused of a pack.
+mod fault;
+mod pack;
+
+pub use fault::PackFault;
+pub use fault::PackFaultDebug;
+pub use fault::PackFaultFromTable;
+pub use fault::PackFaultPartialEq;
+pub use fault::read_rule;
+pub use pack::Pack;

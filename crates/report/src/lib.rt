@@ -1,0 +1,8 @@
+// The lines that programs print.
+mod line;
+mod listing;
+
+pub use line::refused_pack_line;
+pub use line::refused_rule_line;
+pub use line::rule_line;
+pub use listing::pack_listing;

@@ -1,0 +1,40 @@
+// The bytes of one printed line.
+ghost use mathlib.Core.Path.{_≡_};
+ghost use lib.ListN.{length};
+ghost use Rattle.std.specs.Of.String.{string-bytes};
+ghost use Rattle.std.specs.Of.Vec.{vec-items};
+ghost use Rattle.std.specs.Vec.{made};
+ghost use Rattle.report.specs.Lines.{rule-line, refused-line, pack-line};
+use refusals::Refusal;
+use std::alloc::AllocError;
+use std::alloc::Global;
+use tables::Rule;
+
+// A lawful rule: its label, its number of rows, its flags used and its codes used.
+pub fn rule_line(heap: Global, label: u16, rule: &Rule) -> Result<String, AllocError>
+    ensures { λ r. ⌜ made r (λ s. string-bytes s ≡ rule-line label (length (vec-items (now (rule .entry) .table .rows))) (now (rule .entry) .table .flags) (now (rule .entry) .table .codes)) ⌝ }
+{
+    let table = rule.table();
+    let rows = table.len();
+    let flags = table.flags;
+    let codes = table.codes;
+    format!(heap, "{label} {rows} {flags} {codes}\n")
+}
+
+// A refused rule: its label, and the number and the place of the refusal.
+pub fn refused_rule_line(heap: Global, label: u16, refusal: Refusal) -> Result<String, AllocError>
+    ensures { λ r. ⌜ made r (λ s. string-bytes s ≡ refused-line label (refusal .number) (refusal .place)) ⌝ }
+{
+    let number = refusal.number;
+    let place = refusal.place;
+    format!(heap, "{label} ! {number} {place}\n")
+}
+
+// A refused pack: the number and the place of the refusal.
+pub fn refused_pack_line(heap: Global, refusal: Refusal) -> Result<String, AllocError>
+    ensures { λ r. ⌜ made r (λ s. string-bytes s ≡ pack-line (refusal .number) (refusal .place)) ⌝ }
+{
+    let number = refusal.number;
+    let place = refusal.place;
+    format!(heap, "! {number} {place}\n")
+}

@@ -1,0 +1,24 @@
+use mathlib.Core.Path.{refl, _∙_}
+use native.Mathlib.Omega.{arith}
+use borrow.Author.Needs.{needs}
+use lib.ListN.{length}
+use Rattle.std.proofs.shelf.Parts.{between-to-end}
+use Rattle.tables.specs.Format.{rows-in}
+use Rattle.tables.proofs.Bytes.{sized-fault}
+use Rattle.refusals.proofs.Exits.{exit}
+use Rattle.tables.proofs.read.read_table.Needs as need
+
+pub returns-in-Break-read-rows : need.returns-in-Break-read-rows
+returns-in-Break-read-rows c =
+    let rest-is = between-to-end (c .args .bytes .now) 4 (length (c .args .bytes .now)) (omega arith) in
+    exit _ _ (c .from-residual-in-Break-read-rows .result) (c .from-residual-in-Break-read-rows .ensures .1)
+    (sized-fault (c .args .form) (c .args .bytes .now) _ (c .from .result) _ (search needs) (c .from .ensures ∙ c .from-be-bytes .ensures) rest-is (c .in-Continue-check .ensures tt) (c .in-Continue-check-length .ensures tt) (c .in-Break-read-rows .ensures tt))
+
+pub returns : need.returns
+returns c =
+    let n-is = c .from .ensures ∙ c .from-be-bytes .ensures in
+    let rest-is = between-to-end (c .args .bytes .now) 4 (length (c .args .bytes .now)) (omega arith) in
+    let read = c .in-Continue-read-rows .ensures tt in (
+      sized-fault (c .args .form) (c .args .bytes .now) _ (c .from .result) _ (search needs) n-is rest-is (c .in-Continue-check .ensures tt) (c .in-Continue-check-length .ensures tt) (read .0),
+      record { flags = refl; codes = refl; rows = read .1 ∙ (λ d. rows-in (rest-is d) (n-is d)) },
+    )

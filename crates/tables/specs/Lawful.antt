@@ -1,0 +1,29 @@
+-- Which tables are lawful: those in which the checks find nothing.
+use mathlib.Core.Bool.{Bool, true, false}
+use mathlib.Core.List.{List}
+use Prim.Native.Nat.{ℕ}
+use lib.ListN.{length, getD}
+use Rattle.std.specs.declared.option.Option.{Option}
+use Rattle.std.specs.declared.option.Option.the-variants.{Some, None}
+use Rattle.rows.specs.Rows.{blank}
+use Rattle.rows.specs.declared.row.Row.{Row}
+use Rattle.refusals.specs.First.{then, first-from}
+use Rattle.tables.specs.Faults.{size-fault, row-fault, rule-fault}
+use Rattle.tables.specs.declared.form.Form.{Form}
+use Rattle.tables.specs.declared.form.Form.the-variants.{Rule, Plain}
+use Rattle.tables.specs.declared.fault.TableFault.{TableFault}
+
+abbrev pub none-found : Option TableFault → Bool
+none-found None = true
+none-found (Some fault) = false
+
+-- the sizes of a table, and its rows one by one
+abbrev pub rows-fault : Form → ℕ → ℕ → List Row → Option TableFault
+rows-fault form flags codes rows =
+    then (size-fault form (length rows) flags codes) (first-from (λ i. row-fault form flags codes i (getD rows i blank)) 0 (length rows))
+
+unfoldable pub lawful-rule : ℕ → ℕ → List Row → Bool
+lawful-rule flags codes rows = none-found (then (rows-fault Rule flags codes rows) (rule-fault rows))
+
+unfoldable pub lawful-plain : ℕ → ℕ → List Row → Bool
+lawful-plain flags codes rows = none-found (rows-fault Plain flags codes rows)

@@ -1,0 +1,5 @@
+pub mod Faults
+pub mod Format
+pub mod Lawful
+pub mod Reading
+pub mod Told

@@ -1,0 +1,48 @@
+// The memory that a table is read into. It is taken here, so that reading itself cannot run out of memory.
+ghost use mathlib.Core.Path.{_≡_};
+ghost use mathlib.Core.List.{[]};
+ghost use Prim.Native.Nat.{_≤_};
+ghost use Rattle.std.specs.Of.Vec.{vec-items, vec-len, vec-cap};
+ghost use Rattle.std.specs.Vec.{made};
+use rows::Home;
+use rows::Row;
+use std::alloc::AllocError;
+use std::alloc::Global;
+
+// Room for the longest rule.
+#[derive(Drop)]
+pub struct RuleMemory {
+    pub(crate) rows: Vec<Row>,
+    pub(crate) homes: Vec<Home>,
+    ghost no_rows: { vec-len rows ≡ 0 },
+    ghost no_homes: { vec-len homes ≡ 0 },
+    ghost row_room: { 1024 ≤ vec-cap rows },
+    ghost home_room: { 1024 ≤ vec-cap homes },
+}
+
+impl RuleMemory {
+    pub fn reserve(heap: Global) -> Result<RuleMemory, AllocError>
+        ensures { λ r. ⌜ made r (λ m. (1024 ≤ vec-cap (m .rows)) × (1024 ≤ vec-cap (m .homes))) ⌝ }
+    {
+        let rows = Vec::with_capacity(heap, 1024)?;
+        let homes = Vec::with_capacity(heap, 1024)?;
+        Ok(RuleMemory { rows, homes })
+    }
+}
+
+// Room for the longest plain table.
+#[derive(Drop)]
+pub struct PlainMemory {
+    pub(crate) rows: Vec<Row>,
+    ghost no_rows: { vec-len rows ≡ 0 },
+    ghost row_room: { 5120 ≤ vec-cap rows },
+}
+
+impl PlainMemory {
+    pub fn reserve(heap: Global) -> Result<PlainMemory, AllocError>
+        ensures { λ r. ⌜ made r (λ m. 5120 ≤ vec-cap (m .rows)) ⌝ }
+    {
+        let rows = Vec::with_capacity(heap, 5120)?;
+        Ok(PlainMemory { rows })
+    }
+}
