@@ -88,7 +88,8 @@ impl<'a> Pack<'a> {
 
     // The number of rules.
     pub fn count(&self) -> usize
-        ensures { λ r. ⌜ r ≡ rule-count (now (now (self .entry) .bytes)) ⌝ }
+        ensures value { λ r. ⌜ r ≡ rule-count (now (now (self .entry) .bytes)) ⌝ }
+        ensures bound { λ r. ⌜ r < 65536 ⌝ }
     {
         count_of(self.bytes)
     }
@@ -97,7 +98,7 @@ impl<'a> Pack<'a> {
     pub fn label(&self, rule: usize) -> Option<u16>
         ensures { λ r. ⌜ r ≡ label-if (now (now (self .entry) .bytes)) rule ⌝ }
     {
-        if rule >= count_of(self.bytes) {
+        if rule >= self.count() {
             return None;
         }
         Some(word_at(self.bytes, 2 + 2 * rule))
@@ -107,7 +108,7 @@ impl<'a> Pack<'a> {
     pub fn table(&self, rule: usize) -> Option<&'a [u8]>
         ensures { λ r. ⌜ mapped now r ≡ table-if (now (now (self .entry) .bytes)) rule ⌝ }
     {
-        if rule >= count_of(self.bytes) {
+        if rule >= self.count() {
             return None;
         }
         let start = start_of(self.bytes, rule);

@@ -1,6 +1,8 @@
 // The lines that programs print.
 mod line;
 mod listing;
+#[cfg(test)]
+mod tests;
 
 pub use line::refused_pack_line;
 pub use line::refused_rule_line;

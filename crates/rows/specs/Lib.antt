@@ -1,3 +1,4 @@
 pub mod Homes
 pub mod Kinds
+pub mod Reach
 pub mod Rows

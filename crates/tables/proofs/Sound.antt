@@ -30,11 +30,8 @@ use Rattle.tables.specs.declared.fault.TableFault.{TableFault}
 use Rattle.tables.specs.declared.fault.TableFault.the-variants.{Short, RowCount}
 use Rattle.refusals.proofs.First.{then-first, then-second, first-none, each-none}
 
-pub none-is : {o : Option TableFault} → o ≡ None → none-found o ≡ true
-none-is e = ap none-found e
-
 -- what a test that leads to a fault says where there is none
-pub passed : (b : Bool) (f : TableFault) (o : Option TableFault) → cond b (Some f) o ≡ None → (b ≡ false) × (o ≡ None)
+passed : (b : Bool) (f : TableFault) (o : Option TableFault) → cond b (Some f) o ≡ None → (b ≡ false) × (o ≡ None)
 passed true f o e = let z : _≡_ {A = ℕ} 0 1 = cc in absurd (omega arith)
 passed false f o e = (refl, e)
 
@@ -42,7 +39,7 @@ neither : (a b : Bool) → (a || b) ≡ false → (a ≡ false) × (b ≡ false)
 neither false b e = (refl, e)
 neither true b e = let z : _≡_ {A = ℕ} 0 1 = cc in absurd (omega arith)
 
-pub sizes-fine : (form : Form) (n flags codes : ℕ) → size-fault form n flags codes ≡ None → (0 < n) × (n ≤ limit form)
+sizes-fine : (form : Form) (n flags codes : ℕ) → size-fault form n flags codes ≡ None → (0 < n) × (n ≤ limit form)
 sizes-fine form n flags codes e =
     let b = neither _ _ (passed _ RowCount _ e .0) in
     let some : (n ≡ 0) → ⊥ = eqb-false n 0 (b .0) in
@@ -55,13 +52,10 @@ module _ (form : Form) (bytes : List ℕ) (fine : table-fault form bytes ≡ Non
   stated-fine : size-fault form (stated-rows bytes) (stated-flags bytes) (stated-codes bytes) ≡ None
   stated-fine = then-first _ _ past-length
 
-  pub table-sizes : (0 < stated-rows bytes) × (stated-rows bytes ≤ limit form)
-  table-sizes = sizes-fine form (stated-rows bytes) (stated-flags bytes) (stated-codes bytes) stated-fine
-
   rows-fine : first-from (fault-at form (stated-rows bytes) (stated-flags bytes) (stated-codes bytes) (drop 4 bytes)) 0 (stated-rows bytes) ≡ None
   rows-fine = then-second (length-fault (stated-rows bytes) (length (drop 4 bytes))) _ (then-second (size-fault form (stated-rows bytes) (stated-flags bytes) (stated-codes bytes)) _ past-length)
 
-pub length-rows : (bytes : List ℕ) → length (rows-of bytes) ≡ stated-rows bytes
+length-rows : (bytes : List ℕ) → length (rows-of bytes) ≡ stated-rows bytes
 unfolding rows-in
 length-rows bytes = length-map-counting (row-at (drop 4 bytes) (stated-rows bytes)) 0 (stated-rows bytes)
 
@@ -75,6 +69,7 @@ known-row form flags codes i None l r e = let z : _≡_ {A = ℕ} 0 1 = cc in ab
 known-row form flags codes i (Some k) l r e = e
 
 pub table-lawful : (form : Form) (bytes : List ℕ) → table-fault form bytes ≡ None → rows-fault form (stated-flags bytes) (stated-codes bytes) (rows-of bytes) ≡ None
+unfolding rows-fault
 table-lawful form bytes fine =
     let n = stated-rows bytes in
     let flags = stated-flags bytes in
@@ -89,19 +84,19 @@ table-lawful form bytes fine =
     ∙ ap (λ o. then o (first-from at 0 n)) (stated-fine form bytes fine)
     ∙ first-none at 0 n each
 
-module _ (bytes : List ℕ) (t : Table) (reads : Reads bytes t) where
-  pub read-sizes : (form : Form) → table-fault form bytes ≡ None → (0 < length (vec-items (t .rows))) × (length (vec-items (t .rows)) ≤ limit form)
-  read-sizes form fine =
-      let long : length (vec-items (t .rows)) ≡ stated-rows bytes = ap length (reads .rows) ∙ length-rows bytes in
-      subst (λ n. (0 < n) × (n ≤ limit form)) (sym long) (table-sizes form bytes fine)
+-- the same of the table that was read
+pub read-fine : (form : Form) (bytes : List ℕ) (t : Table) → Reads bytes t → table-fault form bytes ≡ None → rows-fault form (t .flags) (t .codes) (vec-items (t .rows)) ≡ None
+read-fine form bytes t reads fine = (λ d. rows-fault form (reads .flags d) (reads .codes d) (reads .rows d)) ∙ table-lawful form bytes fine
 
-  read-rows-fine : (form : Form) → table-fault form bytes ≡ None → rows-fault form (t .flags) (t .codes) (vec-items (t .rows)) ≡ None
-  read-rows-fine form fine = (λ d. rows-fault form (reads .flags d) (reads .codes d) (reads .rows d)) ∙ table-lawful form bytes fine
+-- the number of rows of a table whose rows are lawful one by one
+pub fine-sizes : (form : Form) (flags codes : ℕ) (rows : List Row) → rows-fault form flags codes rows ≡ None → (0 < length rows) × (length rows ≤ limit form)
+unfolding rows-fault
+fine-sizes form flags codes rows fine = sizes-fine form (length rows) flags codes (then-first _ _ fine)
 
-  pub read-lawful-rule : table-fault Rule bytes ≡ None → rule-fault (vec-items (t .rows)) ≡ None → lawful-rule (t .flags) (t .codes) (vec-items (t .rows)) ≡ true
-  unfolding lawful-rule
-  read-lawful-rule fine checked = none-is (ap (λ o. then o (rule-fault (vec-items (t .rows)))) (read-rows-fine Rule fine) ∙ checked)
+pub rule-is-lawful : (flags codes : ℕ) (rows : List Row) → rows-fault Rule flags codes rows ≡ None → rule-fault rows ≡ None → lawful-rule flags codes rows ≡ true
+unfolding lawful-rule
+rule-is-lawful flags codes rows fine checked = ap none-found (ap (λ o. then o (rule-fault rows)) fine ∙ checked)
 
-  pub read-lawful-plain : table-fault Plain bytes ≡ None → lawful-plain (t .flags) (t .codes) (vec-items (t .rows)) ≡ true
-  unfolding lawful-plain
-  read-lawful-plain fine = none-is (read-rows-fine Plain fine)
+pub plain-is-lawful : (flags codes : ℕ) (rows : List Row) → rows-fault Plain flags codes rows ≡ None → lawful-plain flags codes rows ≡ true
+unfolding lawful-plain
+plain-is-lawful flags codes rows fine = ap none-found fine

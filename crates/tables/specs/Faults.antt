@@ -73,11 +73,17 @@ check-fault ScopeKindCheck rows hs i =
 check-fault ScopeSizeCheck rows hs i =
     cond (is-in (getD rows i blank .kind) && ltb 64 (scope-size i hs)) (Some (ScopeSize i)) None
 
+abbrev pub one-use-fault : List Row → Option TableFault
+one-use-fault rows = first-from (check-fault OneUse rows (homes rows)) 0 (length rows - 1)
+
+abbrev pub scope-kinds-fault : List Row → Option TableFault
+scope-kinds-fault rows = first-from (check-fault ScopeKindCheck rows (homes rows)) 0 (length rows)
+
+abbrev pub scope-sizes-fault : List Row → Option TableFault
+scope-sizes-fault rows = first-from (check-fault ScopeSizeCheck rows (homes rows)) 0 (length rows)
+
 abbrev pub rule-fault : List Row → Option TableFault
-rule-fault rows =
-    then (first-from (check-fault OneUse rows (homes rows)) 0 (length rows - 1))
-    (then (first-from (check-fault ScopeKindCheck rows (homes rows)) 0 (length rows))
-    (first-from (check-fault ScopeSizeCheck rows (homes rows)) 0 (length rows)))
+rule-fault rows = then (one-use-fault rows) (then (scope-kinds-fault rows) (scope-sizes-fault rows))
 
 -- the fault of a rule, and of a plain table, of these bytes
 abbrev pub rule-bytes-fault : List ℕ → Option TableFault

@@ -18,7 +18,7 @@ none-found None = true
 none-found (Some fault) = false
 
 -- the sizes of a table, and its rows one by one
-abbrev pub rows-fault : Form → ℕ → ℕ → List Row → Option TableFault
+unfoldable pub rows-fault : Form → ℕ → ℕ → List Row → Option TableFault
 rows-fault form flags codes rows =
     then (size-fault form (length rows) flags codes) (first-from (λ i. row-fault form flags codes i (getD rows i blank)) 0 (length rows))
 

@@ -1,11 +1,11 @@
 // Where each row of a rule stands, worked out from the last row down.
 ghost use mathlib.Core.Path.{_≡_};
-ghost use mathlib.Core.List.{[]};
 ghost use Prim.Native.Nat.{_≤_, _<_};
 ghost use lib.ListN.{length, getD, replicate};
 ghost use Rattle.std.specs.Of.Vec.{vec-items, vec-len, vec-cap};
 ghost use Rattle.rows.specs.Homes.{homes as homes-of, placed, handed};
 ghost use Rattle.rows.specs.declared.home.Home.the-variants.{Outside};
+ghost use Rattle.tables.specs.Memory.{Empty};
 use rows::HalfUse;
 use rows::Home;
 use rows::Row;
@@ -49,7 +49,7 @@ fn hand_on(row: Row, number: u16, homes: &mut Vec<Home>)
 
 // As many times `Outside` as there are rows, in an empty list that has room for them.
 fn start(count: usize, homes: &mut Vec<Home>)
-    requires { ⌜ count ≤ vec-cap (now homes) ⌝ ∗ ⌜ vec-items (now homes) ≡ [] ⌝ ∗ ⌜ vec-len (now homes) ≡ 0 ⌝ }
+    requires { ⌜ count ≤ vec-cap (now homes) ⌝ ∗ ⌜ Empty (now homes) ⌝ }
     ensures items { λ _. ⌜ vec-items (now (homes .exit)) ≡ replicate count Outside ⌝ }
     ensures len { λ _. ⌜ vec-len (now (homes .exit)) ≡ count ⌝ }
 {
@@ -60,7 +60,7 @@ fn start(count: usize, homes: &mut Vec<Home>)
 
 // The home of each row, in an empty list that has room for them.
 pub(crate) fn find_homes(rows: &[Row], homes: &mut Vec<Home>)
-    requires { ⌜ length (now rows) ≤ vec-cap (now homes) ⌝ ∗ ⌜ vec-items (now homes) ≡ [] ⌝ ∗ ⌜ vec-len (now homes) ≡ 0 ⌝ }
+    requires { ⌜ length (now rows) ≤ vec-cap (now homes) ⌝ ∗ ⌜ Empty (now homes) ⌝ }
     requires { ⌜ length (now rows) ≤ 1024 ⌝ }
     ensures { λ _. ⌜ vec-items (now (homes .exit)) ≡ homes-of (now (rows .entry)) ⌝ }
 {

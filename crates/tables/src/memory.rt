@@ -1,9 +1,8 @@
 // The memory that a table is read into. It is taken here, so that reading itself cannot run out of memory.
-ghost use mathlib.Core.Path.{_≡_};
-ghost use mathlib.Core.List.{[]};
 ghost use Prim.Native.Nat.{_≤_};
-ghost use Rattle.std.specs.Of.Vec.{vec-items, vec-len, vec-cap};
+ghost use Rattle.std.specs.Of.Vec.{vec-cap};
 ghost use Rattle.std.specs.Vec.{made};
+ghost use Rattle.tables.specs.Memory.{Empty};
 use rows::Home;
 use rows::Row;
 use std::alloc::AllocError;
@@ -14,8 +13,8 @@ use std::alloc::Global;
 pub struct RuleMemory {
     pub(crate) rows: Vec<Row>,
     pub(crate) homes: Vec<Home>,
-    ghost no_rows: { vec-len rows ≡ 0 },
-    ghost no_homes: { vec-len homes ≡ 0 },
+    ghost no_rows: { Empty rows },
+    ghost no_homes: { Empty homes },
     ghost row_room: { 1024 ≤ vec-cap rows },
     ghost home_room: { 1024 ≤ vec-cap homes },
 }
@@ -34,7 +33,7 @@ impl RuleMemory {
 #[derive(Drop)]
 pub struct PlainMemory {
     pub(crate) rows: Vec<Row>,
-    ghost no_rows: { vec-len rows ≡ 0 },
+    ghost no_rows: { Empty rows },
     ghost row_room: { 5120 ≤ vec-cap rows },
 }
 

@@ -1,6 +1,5 @@
 // Reading what a rule and a plain table have in common.
 ghost use mathlib.Core.Path.{_≡_};
-ghost use mathlib.Core.List.{[]};
 ghost use Prim.Native.Nat.{_+_, _*_, _≤_, _<_};
 ghost use lib.ListN.{length};
 ghost use Rattle.std.specs.Of.Vec.{vec-items, vec-len, vec-cap};
@@ -9,6 +8,9 @@ ghost use Rattle.refusals.specs.First.{first-from};
 ghost use Rattle.tables.specs.Faults.{size-fault, length-fault, row-fault, fault-at, table-fault};
 ghost use Rattle.tables.specs.Reading.{Reads};
 ghost use Rattle.tables.specs.Format.{limit, row-at, rows-in};
+ghost use Rattle.std.specs.declared.option.Option.the-variants.{None};
+ghost use Rattle.tables.specs.Lawful.{rows-fault};
+ghost use Rattle.tables.specs.Memory.{Empty};
 use crate::fault::TableFault;
 use crate::form::Form;
 use crate::table::Table;
@@ -89,7 +91,7 @@ fn read_row(form: Form, sizes: Sizes, rest: &[u8], i: usize) -> Result<Row, Tabl
 
 // All rows in the bytes after the sizes, put into an empty list that has room for them.
 fn read_rows(form: Form, sizes: Sizes, rest: &[u8], rows: &mut Vec<Row>) -> Result<(), TableFault>
-    requires { ⌜ sizes .rows ≤ vec-cap (now rows) ⌝ ∗ ⌜ vec-items (now rows) ≡ [] ⌝ ∗ ⌜ vec-len (now rows) ≡ 0 ⌝ }
+    requires { ⌜ sizes .rows ≤ vec-cap (now rows) ⌝ ∗ ⌜ Empty (now rows) ⌝ }
     requires { ⌜ length (now rest) ≡ 5 * sizes .rows ⌝ }
     ensures { λ r. ⌜ Answers (first-from (fault-at form (sizes .rows) (sizes .flags) (sizes .codes) (now (rest .entry))) 0 (sizes .rows)) r (λ _. vec-items (now (rows .exit)) ≡ rows-in (now (rest .entry)) (sizes .rows)) ⌝ }
 {
@@ -101,8 +103,8 @@ fn read_rows(form: Form, sizes: Sizes, rest: &[u8], rows: &mut Vec<Row>) -> Resu
 
 // The table that these bytes hold, its rows put into an empty list that has room for them.
 pub(crate) fn read_table(form: Form, bytes: &[u8], mut rows: Vec<Row>) -> Result<Table, TableFault>
-    requires { ⌜ limit form ≤ vec-cap rows ⌝ ∗ ⌜ vec-items rows ≡ [] ⌝ ∗ ⌜ vec-len rows ≡ 0 ⌝ }
-    ensures { λ r. ⌜ Answers (table-fault form (now (bytes .entry))) r (Reads (now (bytes .entry))) ⌝ }
+    requires { ⌜ limit form ≤ vec-cap rows ⌝ ∗ ⌜ Empty rows ⌝ }
+    ensures { λ r. ⌜ Answers (table-fault form (now (bytes .entry))) r (λ t. Reads (now (bytes .entry)) t × (rows-fault form (t .flags) (t .codes) (vec-items (t .rows)) ≡ None)) ⌝ }
 {
     let [high, low, flags, codes, rest @ ..] = bytes else {
         return Err(TableFault::Short);

@@ -1,12 +1,19 @@
 // A rule: a lawful table that may have in rows.
 ghost use mathlib.Core.Path.{_≡_};
 ghost use mathlib.Core.Bool.{true};
+ghost use Prim.Native.Nat.{_≤_};
+ghost use lib.ListN.{length};
 ghost use Rattle.std.specs.Finite.{nth};
-ghost use Rattle.std.specs.Of.Vec.{vec-items};
+ghost use Rattle.std.specs.Of.Vec.{vec-items, vec-cap};
+ghost use Rattle.std.specs.declared.option.Option.the-variants.{None};
+ghost use Rattle.std.specs.Options.{Cases};
 ghost use Rattle.rows.specs.Homes.{homes as homes-of};
+ghost use Rattle.rows.specs.Reach.{Stands};
 ghost use Rattle.refusals.specs.Answers.{Answers};
-ghost use Rattle.tables.specs.Faults.{rule-bytes-fault};
-ghost use Rattle.tables.specs.Lawful.{lawful-rule};
+ghost use Rattle.tables.specs.Faults.{rule-fault, rule-bytes-fault};
+ghost use Rattle.tables.specs.Lawful.{lawful-rule, rows-fault};
+ghost use Rattle.tables.specs.Memory.{Empty};
+ghost use Rattle.tables.specs.Places.{Places};
 ghost use Rattle.tables.specs.Reading.{Reads};
 use crate::check::check_rule;
 use crate::fault::TableFault;
@@ -29,10 +36,21 @@ pub struct Rule {
 impl Rule {
     // The rule that these bytes hold.
     pub fn read(bytes: &[u8], memory: RuleMemory) -> Result<Rule, TableFault>
-        ensures { λ r. ⌜ Answers (rule-bytes-fault (now (bytes .entry))) r (λ rule. Reads (now (bytes .entry)) (rule .table)) ⌝ }
+        ensures value { λ r. ⌜ Answers (rule-bytes-fault (now (bytes .entry))) r (λ rule. Reads (now (bytes .entry)) (rule .table)) ⌝ }
+        ensures places { λ _. ⌜ Places (now (bytes .entry)) ⌝ }
     {
-        let RuleMemory { rows, mut homes } = memory;
+        let RuleMemory { rows, homes } = memory;
         let table = read_table(Form::Rule, bytes, rows)?;
+        Rule::from_table(table, homes)
+    }
+
+    // The rule that this table is, whose rows are lawful one by one.
+    fn from_table(table: Table, mut homes: Vec<Home>) -> Result<Rule, TableFault>
+        requires fine { ⌜ rows-fault Form.Rule (table .flags) (table .codes) (vec-items (table .rows)) ≡ None ⌝ }
+        requires empty { ⌜ Empty homes ⌝ }
+        requires room { ⌜ 1024 ≤ vec-cap homes ⌝ }
+        ensures { λ r. ⌜ Answers (rule-fault (vec-items (table .rows))) r (λ rule. rule .table ≡ table) ⌝ }
+    {
         find_homes(table.rows.as_slice(), &mut homes);
         check_rule(table.rows.as_slice(), homes.as_slice())?;
         Ok(Rule { table, homes })
@@ -47,7 +65,8 @@ impl Rule {
 
     // Where the row of this number stands, if there is one.
     pub fn home(&self, number: usize) -> Option<Home>
-        ensures { λ r. ⌜ r ≡ nth (homes-of (vec-items (now (self .entry) .table .rows))) number ⌝ }
+        ensures value { λ r. ⌜ r ≡ nth (homes-of (vec-items (now (self .entry) .table .rows))) number ⌝ }
+        ensures stands { λ r. ⌜ Cases r (length (vec-items (now (self .entry) .table .rows)) ≤ number) (Stands (vec-items (now (self .entry) .table .rows)) number) ⌝ }
     {
         self.homes.get(number).copied()
     }

@@ -11,7 +11,7 @@ use Rattle.report.proofs.listing.lines.Needs as need
 pub loop-rule-again : need.loop-rule-again
 loop-rule-again c =
     let bytes = c .args .pack .bytes .now in
-    let within : c .loop-rule .rule < rule-count bytes = omega (arith, c .count-rule-end .ensures) in
+    let within : c .loop-rule .rule < rule-count bytes = omega (arith, c .count-rule-end .ensures .value) in
     c .in-Continue-push-str .ensures tt .bytes
     ∙ lines-more bytes _ _ (c .loop-rule .rule) within (c .loop-rule .inv) (c .as-str .ensures .value ∙ c .in-Continue-line-at .ensures tt)
 
@@ -19,5 +19,5 @@ pub returns : need.returns
 unfolding lines-of
 returns c =
     let bytes = c .args .pack .bytes .now in
-    let done : c .loop-rule .rule ≡ rule-count bytes = omega (arith, c .count-rule-end .ensures, c .loop-rule .kept .rule-end, c .loop-rule-test .left) in
+    let done : c .loop-rule .rule ≡ rule-count bytes = omega (arith, c .count-rule-end .ensures .value, c .loop-rule .kept .rule-end, c .loop-rule-test .left) in
     c .loop-rule .inv ∙ ap (λ n. joined (line-at bytes) (counting 0 n)) done
