@@ -2,6 +2,10 @@
 use mathlib.Core.Bool.{Bool, cond}
 use mathlib.Core.List.{List}
 use Prim.Native.Nat.{ℕ, _+_}
+use lib.Dec.{ltb}
+use lib.ListN.{length, getD}
+use Rattle.std.specs.declared.option.Option.{Option}
+use Rattle.std.specs.declared.option.Option.the-variants.{Some, None}
 use Rattle.std.specs.shelf.Lists.{sumBy}
 use Rattle.rows.specs.Kinds.{left-use, right-use, names-row}
 use Rattle.rows.specs.declared.kind.Kind.the-variants.{Top}
@@ -10,6 +14,10 @@ use Rattle.rows.specs.declared.row.Row.{Row}
 -- what stands where a list of rows has no row: no definition here depends on it
 abbrev pub blank : Row
 blank = record { kind = Top; left = 0; right = 0 }
+
+-- what stands at place i of a list, if anything does
+abbrev pub item-of : {X : Type 0} → List X → ℕ → X → Option X
+item-of xs i d = cond (ltb i (length xs)) (Some (getD xs i d)) None
 
 -- row i is the left operand, the right operand
 abbrev pub left-is : Row → ℕ → Bool

@@ -18,10 +18,11 @@ use Rattle.rows.specs.Kinds.{kind-of}
 use Rattle.rows.specs.declared.kind.Kind.{Kind}
 use Rattle.rows.specs.declared.kind.Kind.the-variants.{Top}
 use Rattle.rows.specs.declared.row.Row.{Row}
+use Rattle.std.proofs.shelf.Tests.{false≢true}
 use Rattle.refusals.specs.First.{then, first-from}
 use Rattle.tables.specs.Faults.{size-fault, length-fault, row-fault, byte-row-fault, fault-at, rest-fault, table-fault, rule-fault}
 use Rattle.tables.specs.Format.{limit, stated-rows, stated-flags, stated-codes, row-at, rows-in, rows-of, left-at, right-at}
-use Rattle.tables.specs.Lawful.{none-found, rows-fault, lawful-rule, lawful-plain}
+use Rattle.tables.specs.Lawful.{rows-fault, none-found, lawful-rows}
 use Rattle.tables.specs.Reading.{Reads}
 use Rattle.tables.specs.declared.table.Table.{Table}
 use Rattle.tables.specs.declared.form.Form.{Form}
@@ -85,18 +86,15 @@ table-lawful form bytes fine =
     ∙ first-none at 0 n each
 
 -- the same of the table that was read
-pub read-fine : (form : Form) (bytes : List ℕ) (t : Table) → Reads bytes t → table-fault form bytes ≡ None → rows-fault form (t .flags) (t .codes) (vec-items (t .rows)) ≡ None
-read-fine form bytes t reads fine = (λ d. rows-fault form (reads .flags d) (reads .codes d) (reads .rows d)) ∙ table-lawful form bytes fine
+pub read-fine : (form : Form) (bytes : List ℕ) (t : Table) → Reads bytes t → table-fault form bytes ≡ None → lawful-rows form (t .flags) (t .codes) (vec-items (t .rows)) ≡ true
+unfolding lawful-rows
+read-fine form bytes t reads fine = (λ d. none-found (rows-fault form (reads .flags d) (reads .codes d) (reads .rows d))) ∙ ap none-found (table-lawful form bytes fine)
+
+none-is : (o : Option TableFault) → none-found o ≡ true → o ≡ None
+none-is None e = refl
+none-is (Some f) e = absurd (false≢true e)
 
 -- the number of rows of a table whose rows are lawful one by one
-pub fine-sizes : (form : Form) (flags codes : ℕ) (rows : List Row) → rows-fault form flags codes rows ≡ None → (0 < length rows) × (length rows ≤ limit form)
-unfolding rows-fault
-fine-sizes form flags codes rows fine = sizes-fine form (length rows) flags codes (then-first _ _ fine)
-
-pub rule-is-lawful : (flags codes : ℕ) (rows : List Row) → rows-fault Rule flags codes rows ≡ None → rule-fault rows ≡ None → lawful-rule flags codes rows ≡ true
-unfolding lawful-rule
-rule-is-lawful flags codes rows fine checked = ap none-found (ap (λ o. then o (rule-fault rows)) fine ∙ checked)
-
-pub plain-is-lawful : (flags codes : ℕ) (rows : List Row) → rows-fault Plain flags codes rows ≡ None → lawful-plain flags codes rows ≡ true
-unfolding lawful-plain
-plain-is-lawful flags codes rows fine = ap none-found fine
+pub fine-sizes : (form : Form) (flags codes : ℕ) (rows : List Row) → lawful-rows form flags codes rows ≡ true → (0 < length rows) × (length rows ≤ limit form)
+unfolding lawful-rows rows-fault
+fine-sizes form flags codes rows fine = sizes-fine form (length rows) flags codes (then-first _ _ (none-is (rows-fault form flags codes rows) fine))

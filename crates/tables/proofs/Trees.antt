@@ -32,7 +32,7 @@ use Rattle.rows.proofs.Places.{length-homes}
 use Rattle.rows.proofs.Standing.{stands, scoped}
 use Rattle.tables.specs.Faults.{size-fault, row-fault, check-fault, one-use-fault, scope-kinds-fault, rule-fault, table-fault}
 use Rattle.tables.specs.Format.{knows, rows-of, stated-flags, stated-codes}
-use Rattle.tables.specs.Lawful.{none-found, rows-fault, lawful-rule}
+use Rattle.tables.specs.Lawful.{rows-fault}
 use Rattle.tables.specs.Places.{Places}
 use Rattle.tables.specs.declared.form.Form.{Form}
 use Rattle.tables.specs.declared.form.Form.the-variants.{Rule}
@@ -100,25 +100,3 @@ pub places : (bytes : List ℕ) → Places bytes
 places bytes i within fine used =
     let is-tree = tree Rule (stated-flags bytes) (stated-codes bytes) (rows-of bytes) (table-lawful Rule bytes fine) used in
     (scoped (rows-of bytes) is-tree i within, λ kinds. stands (rows-of bytes) is-tree (flat (rows-of bytes) kinds) i within)
-
-none-is : (o : Option TableFault) → none-found o ≡ true → o ≡ None
-none-is None e = refl
-none-is (Some f) e = absurd (false≢true e)
-
--- where the rows of a lawful rule stand
-pub rule-stands : (flags codes : ℕ) (rows : List Row) → lawful-rule flags codes rows ≡ true → (i : ℕ) → i < length rows → Stands rows i (home rows i)
-unfolding lawful-rule
-rule-stands flags codes rows lawful i within =
-    let none = none-is (then (rows-fault Rule flags codes rows) (rule-fault rows)) lawful in
-    let fine = then-first (rows-fault Rule flags codes rows) (rule-fault rows) none in
-    let rest = then-second (rows-fault Rule flags codes rows) (rule-fault rows) none in
-    let used = then-first (one-use-fault rows) _ rest in
-    let kinds = then-first (scope-kinds-fault rows) _ (then-second (one-use-fault rows) _ rest) in
-    stands rows (tree Rule flags codes rows fine used) (flat rows kinds) i within
-
-pub home-stands : (flags codes : ℕ) (rows : List Row) → lawful-rule flags codes rows ≡ true → (i : ℕ) {r : Option Home} → r ≡ nth (homes rows) i → Cases r (length rows ≤ i) (Stands rows i)
-home-stands flags codes rows lawful i {r} is =
-    ⊎-elim
-    (λ within. subst (λ o. Cases o (length rows ≤ i) (Stands rows i)) (sym (is ∙ nth-getD (homes rows) i Outside (omega (arith, length-homes rows refl)) ∙ ap Some (home-at rows i within))) (rule-stands flags codes rows lawful i within))
-    (λ past. subst (λ o. Cases o (length rows ≤ i) (Stands rows i)) (sym (is ∙ nth-past (homes rows) i (omega (arith, length-homes rows refl)))) past)
-    (cases-lt i (length rows))

@@ -82,7 +82,8 @@ scope-kinds-fault rows = first-from (check-fault ScopeKindCheck rows (homes rows
 abbrev pub scope-sizes-fault : List Row → Option TableFault
 scope-sizes-fault rows = first-from (check-fault ScopeSizeCheck rows (homes rows)) 0 (length rows)
 
-abbrev pub rule-fault : List Row → Option TableFault
+-- what only a rule can have
+unfoldable pub rule-fault : List Row → Option TableFault
 rule-fault rows = then (one-use-fault rows) (then (scope-kinds-fault rows) (scope-sizes-fault rows))
 
 -- the fault of a rule, and of a plain table, of these bytes

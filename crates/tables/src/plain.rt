@@ -4,7 +4,8 @@ ghost use mathlib.Core.Bool.{true};
 ghost use Rattle.std.specs.Of.Vec.{vec-items};
 ghost use Rattle.refusals.specs.Answers.{Answers};
 ghost use Rattle.tables.specs.Faults.{plain-bytes-fault};
-ghost use Rattle.tables.specs.Lawful.{lawful-plain};
+ghost use Rattle.tables.specs.Lawful.{lawful-rows};
+ghost use Rattle.tables.specs.declared.form.Form.the-variants.{Plain};
 ghost use Rattle.tables.specs.Reading.{Reads};
 use crate::fault::TableFault;
 use crate::form::Form;
@@ -15,7 +16,7 @@ use crate::table::Table;
 #[derive(Drop)]
 pub struct PlainTable {
     table: Table,
-    ghost lawful: { lawful-plain (table .flags) (table .codes) (vec-items (table .rows)) ≡ true },
+    ghost lawful: { lawful-rows Plain (table .flags) (table .codes) (vec-items (table .rows)) ≡ true },
 }
 
 impl PlainTable {

@@ -2,18 +2,16 @@
 ghost use mathlib.Core.Path.{_≡_};
 ghost use mathlib.Core.Bool.{true};
 ghost use Prim.Native.Nat.{_≤_};
-ghost use lib.ListN.{length};
-ghost use Rattle.std.specs.Finite.{nth};
 ghost use Rattle.std.specs.Of.Vec.{vec-items, vec-cap};
-ghost use Rattle.std.specs.declared.option.Option.the-variants.{None};
-ghost use Rattle.std.specs.Options.{Cases};
 ghost use Rattle.rows.specs.Homes.{homes as homes-of};
-ghost use Rattle.rows.specs.Reach.{Stands};
+ghost use Rattle.rows.specs.Rows.{item-of};
+ghost use Rattle.rows.specs.declared.home.Home.the-variants.{Outside};
 ghost use Rattle.refusals.specs.Answers.{Answers};
 ghost use Rattle.tables.specs.Faults.{rule-fault, rule-bytes-fault};
-ghost use Rattle.tables.specs.Lawful.{lawful-rule, rows-fault};
+ghost use Rattle.tables.specs.Lawful.{lawful-rows, lawful-rule};
 ghost use Rattle.tables.specs.Memory.{Empty};
 ghost use Rattle.tables.specs.Places.{Places};
+ghost use Rattle.tables.specs.declared.form.Form.the-variants.{Rule as RuleForm};
 ghost use Rattle.tables.specs.Reading.{Reads};
 use crate::check::check_rule;
 use crate::fault::TableFault;
@@ -29,7 +27,8 @@ pub struct Rule {
     table: Table,
     // Where each row stands.
     homes: Vec<Home>,
-    ghost lawful: { lawful-rule (table .flags) (table .codes) (vec-items (table .rows)) ≡ true },
+    ghost lawful: { lawful-rows RuleForm (table .flags) (table .codes) (vec-items (table .rows)) ≡ true },
+    ghost checked: { lawful-rule (vec-items (table .rows)) ≡ true },
     ghost placed: { vec-items homes ≡ homes-of (vec-items (table .rows)) },
 }
 
@@ -46,7 +45,7 @@ impl Rule {
 
     // The rule that this table is, whose rows are lawful one by one.
     fn from_table(table: Table, mut homes: Vec<Home>) -> Result<Rule, TableFault>
-        requires fine { ⌜ rows-fault Form.Rule (table .flags) (table .codes) (vec-items (table .rows)) ≡ None ⌝ }
+        requires fine { ⌜ lawful-rows RuleForm (table .flags) (table .codes) (vec-items (table .rows)) ≡ true ⌝ }
         requires empty { ⌜ Empty homes ⌝ }
         requires room { ⌜ 1024 ≤ vec-cap homes ⌝ }
         ensures { λ r. ⌜ Answers (rule-fault (vec-items (table .rows))) r (λ rule. rule .table ≡ table) ⌝ }
@@ -65,8 +64,7 @@ impl Rule {
 
     // Where the row of this number stands, if there is one.
     pub fn home(&self, number: usize) -> Option<Home>
-        ensures value { λ r. ⌜ r ≡ nth (homes-of (vec-items (now (self .entry) .table .rows))) number ⌝ }
-        ensures stands { λ r. ⌜ Cases r (length (vec-items (now (self .entry) .table .rows)) ≤ number) (Stands (vec-items (now (self .entry) .table .rows)) number) ⌝ }
+        ensures { λ r. ⌜ r ≡ item-of (homes-of (vec-items (now (self .entry) .table .rows))) number Outside ⌝ }
     {
         self.homes.get(number).copied()
     }

@@ -2,7 +2,7 @@
 ghost use mathlib.Core.Path.{_≡_};
 ghost use lib.ListN.{length};
 ghost use Rattle.std.specs.Of.Vec.{vec-items};
-ghost use Rattle.std.specs.Finite.{nth};
+ghost use Rattle.rows.specs.Rows.{item-of, blank};
 use rows::Row;
 
 #[derive(Drop)]
@@ -22,7 +22,7 @@ impl Table {
 
     // The row of this number, if there is one.
     pub fn row(&self, number: usize) -> Option<Row>
-        ensures { λ r. ⌜ r ≡ nth (vec-items (now (self .entry) .rows)) number ⌝ }
+        ensures { λ r. ⌜ r ≡ item-of (vec-items (now (self .entry) .rows)) number blank ⌝ }
     {
         self.rows.get(number).copied()
     }

@@ -4,7 +4,8 @@ use Prim.Native.Nat.{_≤_}
 use lib.ListN.{length}
 use Rattle.rows.specs.Homes.{homes}
 use Rattle.tables.specs.declared.form.Form.the-variants.{Rule}
-use Rattle.tables.proofs.Sound.{fine-sizes, rule-is-lawful}
+use Rattle.tables.specs.Lawful.{none-found, lawful-rule}
+use Rattle.tables.proofs.Sound.{fine-sizes}
 use Rattle.tables.proofs.rule.Rule.from_table.Needs as need
 
 pub find-homes-requires : need.find-homes-requires
@@ -24,6 +25,7 @@ check-rule-requires c κs =
     )
 
 pub ghost-result : need.ghost-result
+unfolding lawful-rule
 ghost-result c =
     let checked = rw (c .as-slice-2 .ensures .value) at (c .in-Continue-check-rule .ensures tt) in
-    (rule-is-lawful _ _ _ (c .pre .fine) checked, (c .find-homes .ensures ∙ ap homes (c .as-slice .ensures .value), tt))
+    (c .pre .fine, (ap none-found checked, (c .find-homes .ensures ∙ ap homes (c .as-slice .ensures .value), tt)))
