@@ -1,17 +1,21 @@
 -- One more line of a listing.
 use mathlib.Core.Path.{_≡_, _∙_, sym, ap}
 use mathlib.Core.Bool.{Bool, true, false, cond}
-use mathlib.Core.List.{List, [], _∷_, _++_}
-use Prim.Native.Nat.{ℕ, _+_, _<_}
+use mathlib.Core.List.{List, [], _∷_, _++_, append-assoc, append-nil}
+use Prim.Native.Nat.{ℕ, _+_, _<_, _≤_}
 use native.Mathlib.Omega.{arith}
 use lib.Dec.{ltb}
+use lib.ListN.{length, getD, drop}
 use borrow.Author.Tests.{lt-ltb}
 use Rattle.std.specs.Iters.{counting}
 use Rattle.std.specs.Joined.{joined}
-use Rattle.std.proofs.shelf.Lists.{joined-more, map-id}
+use Rattle.std.proofs.shelf.Lists.{joined-more, map-id, drop-more, drop-all}
 use Rattle.std.proofs.shelf.Counted.{map-counting-more}
 use Rattle.std.specs.declared.option.Option.the-variants.{Some, None}
 use Rattle.packs.specs.Format.{rule-count, label-of, table-of, label-if, table-if}
+use Rattle.rows.specs.Rows.{blank}
+use Rattle.rows.specs.declared.row.Row.{Row}
+use Rattle.report.specs.Plain.{row-line, row-lines}
 use Rattle.report.specs.Listing.{line-of, line-at, line-if}
 
 -- the line of a label and a table that a pack has at k
@@ -34,3 +38,17 @@ lines-more bytes text line k within sofar here =
     (λ d. sofar d ++ there d)
     ∙ joined-more (line-at bytes) [] (counting 0 k) k
     ∙ ap (joined (line-at bytes)) (sym (counting-more k))
+
+-- one more row of a table, and no more rows
+pub rows-more : (text line whole : List ℕ) (i : ℕ) (rows : List Row) → i < length rows → line ≡ row-line i (getD rows i blank) → text ++ row-lines i (drop i rows) ≡ whole → (text ++ line) ++ row-lines (i + 1) (drop (i + 1) rows) ≡ whole
+unfolding row-lines
+rows-more text line whole i rows within here before =
+    append-assoc text line (row-lines (i + 1) (drop (i + 1) rows))
+    ∙ ap (λ l. text ++ (l ++ row-lines (i + 1) (drop (i + 1) rows))) here
+    ∙ ap (λ l. text ++ row-lines i l) (sym (drop-more rows i blank within))
+    ∙ before
+
+pub rows-done : (text whole : List ℕ) (i : ℕ) (rows : List Row) → length rows ≤ i → text ++ row-lines i (drop i rows) ≡ whole → text ≡ whole
+unfolding row-lines
+rows-done text whole i rows past before =
+    sym (append-nil text) ∙ ap (λ l. text ++ row-lines i l) (sym (drop-all i rows past)) ∙ before

@@ -10,5 +10,5 @@ rule-line label rows flags used = decimal label ++ (codes " " ++ (decimal rows +
 abbrev pub refused-line : ℕ → ℕ → ℕ → List ℕ
 refused-line label number place = decimal label ++ (codes " ! " ++ (decimal number ++ (codes " " ++ (decimal place ++ codes "\n"))))
 
-abbrev pub pack-line : ℕ → ℕ → List ℕ
-pack-line number place = codes "! " ++ (decimal number ++ (codes " " ++ (decimal place ++ codes "\n")))
+abbrev pub file-line : ℕ → ℕ → List ℕ
+file-line number place = codes "! " ++ (decimal number ++ (codes " " ++ (decimal place ++ codes "\n")))

@@ -17,7 +17,7 @@ use Rattle.packs.specs.Format.{rule-count, label-of, table-of, pack-fault}
 use Rattle.packs.specs.Told as pack
 use Rattle.packs.specs.declared.fault.PackFault.{PackFault}
 use Rattle.packs.specs.declared.fault.PackFault.the-variants.{Length}
-use Rattle.report.specs.Lines.{rule-line, refused-line, pack-line}
+use Rattle.report.specs.Lines.{rule-line, refused-line, file-line}
 
 -- the line of a rule with this label and this table, in which this fault is found, if any
 abbrev pub line-by : ℕ → List ℕ → Option TableFault → List ℕ
@@ -39,7 +39,7 @@ unfoldable pub lines-of : List ℕ → List ℕ
 lines-of bytes = joined (line-at bytes) (counting 0 (rule-count bytes))
 
 abbrev pub refused-pack : PackFault → List ℕ
-refused-pack fault = pack-line (pack.told fault .number) (pack.told fault .place)
+refused-pack fault = file-line (pack.told fault .number) (pack.told fault .place)
 
 abbrev pub listing-by : List ℕ → Option PackFault → List ℕ
 listing-by bytes None = lines-of bytes

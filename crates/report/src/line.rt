@@ -4,7 +4,7 @@ ghost use lib.ListN.{length};
 ghost use Rattle.std.specs.Of.String.{string-bytes};
 ghost use Rattle.std.specs.Of.Vec.{vec-items};
 ghost use Rattle.std.specs.Vec.{made};
-ghost use Rattle.report.specs.Lines.{rule-line, refused-line, pack-line};
+ghost use Rattle.report.specs.Lines.{rule-line, refused-line, file-line};
 use refusals::Refusal;
 use std::alloc::AllocError;
 use std::alloc::Global;
@@ -30,9 +30,9 @@ pub fn refused_rule_line(heap: Global, label: u16, refusal: Refusal) -> Result<S
     format!(heap, "{label} ! {number} {place}\n")
 }
 
-// A refused pack: the number and the place of the refusal.
-pub fn refused_pack_line(heap: Global, refusal: Refusal) -> Result<String, AllocError>
-    ensures { λ r. ⌜ made r (λ s. string-bytes s ≡ pack-line (refusal .number) (refusal .place)) ⌝ }
+// A file that is refused whole: the number and the place of the refusal.
+pub fn refused_file_line(heap: Global, refusal: Refusal) -> Result<String, AllocError>
+    ensures { λ r. ⌜ made r (λ s. string-bytes s ≡ file-line (refusal .number) (refusal .place)) ⌝ }
 {
     let number = refusal.number;
     let place = refusal.place;

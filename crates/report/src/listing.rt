@@ -3,7 +3,7 @@ ghost use mathlib.Core.Path.{_≡_};
 ghost use Rattle.std.specs.Of.String.{string-bytes};
 ghost use Rattle.std.specs.Vec.{made};
 ghost use Rattle.report.specs.Listing.{line-of, line-if, lines-of, listing};
-use crate::line::refused_pack_line;
+use crate::line::refused_file_line;
 use crate::line::refused_rule_line;
 use crate::line::rule_line;
 use packs::Pack;
@@ -53,10 +53,10 @@ pub fn pack_listing(heap: Global, file: &[u8]) -> Result<String, AllocError>
     ensures { λ r. ⌜ made r (λ s. string-bytes s ≡ listing (now (file .entry))) ⌝ }
 {
     if file.len() > LONGEST {
-        return refused_pack_line(heap, PackFault::Length.refusal());
+        return refused_file_line(heap, PackFault::Length.refusal());
     }
     match Pack::check(file) {
         Ok(pack) => lines(heap, pack),
-        Err(fault) => refused_pack_line(heap, fault.refusal()),
+        Err(fault) => refused_file_line(heap, fault.refusal()),
     }
 }

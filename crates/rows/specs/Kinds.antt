@@ -1,6 +1,8 @@
 -- The kinds of row: their numbers, and what the two halves of an argument are.
 use mathlib.Core.Bool.{Bool, true, false, cond}
+use mathlib.Core.List.{List}
 use Prim.Native.Nat.{ℕ}
+use lib.Chars.{codes}
 use lib.Dec.{eqb, ltb}
 use Rattle.std.specs.declared.option.Option.{Option}
 use Rattle.std.specs.declared.option.Option.the-variants.{Some, None}
@@ -21,6 +23,19 @@ number Until = 8
 number Always = 9
 number Eventually = 10
 number In = 11
+
+abbrev pub word-of : Kind → List ℕ
+word-of Top = codes "top"
+word-of Flag = codes "flag"
+word-of Code = codes "code"
+word-of Not = codes "not"
+word-of And = codes "and"
+word-of Or = codes "or"
+word-of Next = codes "next"
+word-of Until = codes "until"
+word-of Always = codes "always"
+word-of Eventually = codes "eventually"
+word-of In = codes "in"
 
 -- the kind that has this number
 abbrev pub kind-of : ℕ → Option Kind

@@ -1,6 +1,6 @@
 // The eleven kinds of row, and what each half of a row's argument is for each kind.
 ghost use mathlib.Core.Path.{_≡_};
-ghost use Rattle.rows.specs.Kinds.{kind-of, left-use, right-use, is-in, may-scope, zero-kept, number-kept, order-kept, names-row};
+ghost use Rattle.rows.specs.Kinds.{number, word-of, kind-of, left-use, right-use, is-in, may-scope, zero-kept, number-kept, order-kept, names-row};
 
 #[derive(Clone, Copy)]
 pub enum Kind {
@@ -61,6 +61,30 @@ impl Kind {
             10 => Some(Kind::Eventually),
             11 => Some(Kind::In),
             _ => None,
+        }
+    }
+
+    pub fn number(self) -> u8
+        ensures { λ r. ⌜ r ≡ number self ⌝ }
+    {
+        self as u8 + 1
+    }
+
+    pub fn word(self) -> &'static str
+        ensures { λ r. ⌜ now r ≡ word-of self ⌝ }
+    {
+        match self {
+            Kind::Top => "top",
+            Kind::Flag => "flag",
+            Kind::Code => "code",
+            Kind::Not => "not",
+            Kind::And => "and",
+            Kind::Or => "or",
+            Kind::Next => "next",
+            Kind::Until => "until",
+            Kind::Always => "always",
+            Kind::Eventually => "eventually",
+            Kind::In => "in",
         }
     }
 

@@ -2,11 +2,11 @@
 use mathlib.Core.Path.{_≡_, refl, _∙_, sym, ap, subst}
 use mathlib.Core.Bool.{Bool, true, false, cond, _||_}
 use mathlib.Core.List.{List, map}
-use Prim.Native.Nat.{ℕ, suc, zero, _+_, _-_, _<_, _≤_}
+use Prim.Native.Nat.{ℕ, suc, zero, _+_, _-_, _*_, _<_, _≤_}
 use native.Mathlib.Omega.{arith}
 use lib.Dec.{eqb, ltb}
 use lib.ListN.{length, getD, drop}
-use borrow.Author.Tests.{eqb-false, ltb-false}
+use borrow.Author.Tests.{eqb-true, eqb-false, ltb-false}
 use Rattle.std.specs.Iters.{counting}
 use Rattle.std.proofs.shelf.Counted.{length-map-counting, getD-map-counting}
 use Rattle.std.specs.declared.option.Option.{Option}
@@ -28,13 +28,16 @@ use Rattle.tables.specs.declared.table.Table.{Table}
 use Rattle.tables.specs.declared.form.Form.{Form}
 use Rattle.tables.specs.declared.form.Form.the-variants.{Rule, Plain}
 use Rattle.tables.specs.declared.fault.TableFault.{TableFault}
-use Rattle.tables.specs.declared.fault.TableFault.the-variants.{Short, RowCount}
+use Rattle.tables.specs.declared.fault.TableFault.the-variants.{Short, RowCount, Length}
 use Rattle.refusals.proofs.First.{then-first, then-second, first-none, each-none}
 
 -- what a test that leads to a fault says where there is none
 passed : (b : Bool) (f : TableFault) (o : Option TableFault) → cond b (Some f) o ≡ None → (b ≡ false) × (o ≡ None)
 passed true f o e = let z : _≡_ {A = ℕ} 0 1 = cc in absurd (omega arith)
 passed false f o e = (refl, e)
+
+no-length-fault : (b : Bool) → cond b None (Some Length) ≡ None → b ≡ true
+no-length-fault b e = grind arith
 
 neither : (a b : Bool) → (a || b) ≡ false → (a ≡ false) × (b ≡ false)
 neither false b e = (refl, e)
@@ -53,10 +56,19 @@ module _ (form : Form) (bytes : List ℕ) (fine : table-fault form bytes ≡ Non
   stated-fine : size-fault form (stated-rows bytes) (stated-flags bytes) (stated-codes bytes) ≡ None
   stated-fine = then-first _ _ past-length
 
-  rows-fine : first-from (fault-at form (stated-rows bytes) (stated-flags bytes) (stated-codes bytes) (drop 4 bytes)) 0 (stated-rows bytes) ≡ None
+  pub four-bytes : 4 ≤ length bytes
+  four-bytes = ltb-false (length bytes) 4 (passed _ Short _ fine .0)
+
+  pub rest-long : length (drop 4 bytes) ≡ 5 * stated-rows bytes
+  rest-long =
+      let n = stated-rows bytes in
+      let found = then-first (length-fault n (length (drop 4 bytes))) _ (then-second (size-fault form n (stated-flags bytes) (stated-codes bytes)) _ past-length) in
+      eqb-true (length (drop 4 bytes)) (5 * n) (no-length-fault (eqb (length (drop 4 bytes)) (5 * n)) found)
+
+  pub rows-fine : first-from (fault-at form (stated-rows bytes) (stated-flags bytes) (stated-codes bytes) (drop 4 bytes)) 0 (stated-rows bytes) ≡ None
   rows-fine = then-second (length-fault (stated-rows bytes) (length (drop 4 bytes))) _ (then-second (size-fault form (stated-rows bytes) (stated-flags bytes) (stated-codes bytes)) _ past-length)
 
-length-rows : (bytes : List ℕ) → length (rows-of bytes) ≡ stated-rows bytes
+pub length-rows : (bytes : List ℕ) → length (rows-of bytes) ≡ stated-rows bytes
 unfolding rows-in
 length-rows bytes = length-map-counting (row-at (drop 4 bytes) (stated-rows bytes)) 0 (stated-rows bytes)
 
@@ -90,7 +102,7 @@ pub read-fine : (form : Form) (bytes : List ℕ) (t : Table) → Reads bytes t �
 unfolding lawful-rows
 read-fine form bytes t reads fine = (λ d. none-found (rows-fault form (reads .flags d) (reads .codes d) (reads .rows d))) ∙ ap none-found (table-lawful form bytes fine)
 
-none-is : (o : Option TableFault) → none-found o ≡ true → o ≡ None
+pub none-is : (o : Option TableFault) → none-found o ≡ true → o ≡ None
 none-is None e = refl
 none-is (Some f) e = absurd (false≢true e)
 

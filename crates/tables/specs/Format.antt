@@ -1,11 +1,12 @@
 -- The format of a table, from its bytes to its rows.
 use mathlib.Core.Bool.{Bool, true, false, not}
-use mathlib.Core.List.{List, map}
-use Prim.Native.Nat.{ℕ, _+_, _*_}
-use lib.ListN.{getD, drop}
+use mathlib.Core.List.{List, [], _∷_, _++_, map}
+use Prim.Native.Nat.{ℕ, _+_, _*_, _/_, _%_}
+use lib.ListN.{length, getD, drop}
 use Rattle.std.specs.Iters.{counting}
+use Rattle.std.specs.Joined.{joined}
 use Rattle.std.specs.Options.{valueOr}
-use Rattle.rows.specs.Kinds.{kind-of, is-in}
+use Rattle.rows.specs.Kinds.{number, kind-of, is-in}
 use Rattle.rows.specs.declared.kind.Kind.{Kind}
 use Rattle.rows.specs.declared.kind.Kind.the-variants.{Top}
 use Rattle.rows.specs.declared.row.Row.{Row}
@@ -54,3 +55,17 @@ rows-in rest n = map (row-at rest n) (counting 0 n)
 -- the rows of a table of these bytes
 abbrev pub rows-of : List ℕ → List Row
 rows-of bytes = rows-in (drop 4 bytes) (stated-rows bytes)
+
+-- The bytes of a table with these flags used, codes used and rows: a number of two bytes as its high and its low byte, then the
+-- kinds, then the halves.
+abbrev pub half-bytes : Row → List ℕ
+half-bytes r = (r .left / 256) ∷ (r .left % 256) ∷ (r .right / 256) ∷ (r .right % 256) ∷ []
+
+abbrev pub kind-number : Row → ℕ
+kind-number r = number (r .kind)
+
+unfoldable pub body-bytes : List Row → List ℕ
+body-bytes rows = map kind-number rows ++ joined half-bytes rows
+
+unfoldable pub table-bytes : ℕ → ℕ → List Row → List ℕ
+table-bytes flags codes rows = (length rows / 256) ∷ (length rows % 256) ∷ flags ∷ codes ∷ body-bytes rows

@@ -5,3 +5,4 @@ pub mod Memory
 pub mod Places
 pub mod Reading
 pub mod Told
+pub mod Writing

@@ -2,7 +2,7 @@
 use Rattle.refusals.specs.declared.Layer.the-variants.{Table}
 use Rattle.refusals.specs.declared.Refusal.{Refusal}
 use Rattle.tables.specs.declared.fault.TableFault.{TableFault}
-use Rattle.tables.specs.declared.fault.TableFault.the-variants.{Short, RowCount, FlagsUsed, CodesUsed, Length, UnknownKind, HalfNotZero, NumberNotUsed, OperandNotBelow, NotOneUse, ScopeKind, ScopeSize}
+use Rattle.tables.specs.declared.fault.TableFault.the-variants.{Short, RowCount, FlagsUsed, CodesUsed, Length, UnknownKind, HalfNotZero, NumberNotUsed, OperandNotBelow, NotOneUse, ScopeKind, ScopeSize, BufferShort}
 
 abbrev pub told : TableFault → Refusal
 told Short = record { number = 1; place = 0; layer = Table }
@@ -17,3 +17,4 @@ told (OperandNotBelow row) = record { number = 8; place = row; layer = Table }
 told (NotOneUse row) = record { number = 9; place = row; layer = Table }
 told (ScopeKind row) = record { number = 10; place = row; layer = Table }
 told (ScopeSize row) = record { number = 11; place = row; layer = Table }
+told (BufferShort needed) = record { number = 22; place = needed; layer = Table }

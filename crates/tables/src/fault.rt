@@ -30,6 +30,8 @@ pub enum TableFault {
     ScopeKind(usize),
     // The scope of this in row has more than 64 rows.
     ScopeSize(usize),
+    // The table has this many bytes, and the buffer has fewer.
+    BufferShort(usize),
 }
 
 impl TableFault {
@@ -49,6 +51,7 @@ impl TableFault {
             TableFault::NotOneUse(row) => (9, row),
             TableFault::ScopeKind(row) => (10, row),
             TableFault::ScopeSize(row) => (11, row),
+            TableFault::BufferShort(needed) => (22, needed),
         };
         let layer = Layer::Table;
         Refusal {

@@ -8,6 +8,7 @@ mod plain;
 mod read;
 mod rule;
 mod table;
+mod write;
 
 pub use fault::TableFault;
 pub use fault::TableFaultDebug;

@@ -6,7 +6,7 @@ ghost use Rattle.std.specs.Of.Vec.{vec-items, vec-len, vec-cap};
 ghost use Rattle.refusals.specs.Answers.{Answers, Checks};
 ghost use Rattle.refusals.specs.First.{first-from};
 ghost use Rattle.tables.specs.Faults.{size-fault, length-fault, row-fault, fault-at, table-fault};
-ghost use Rattle.tables.specs.Reading.{Reads};
+ghost use Rattle.tables.specs.Reading.{Reads, bytes-of};
 ghost use Rattle.tables.specs.Format.{limit, row-at, rows-in};
 ghost use mathlib.Core.Bool.{true};
 ghost use Rattle.tables.specs.Lawful.{lawful-rows};
@@ -104,7 +104,7 @@ fn read_rows(form: Form, sizes: Sizes, rest: &[u8], rows: &mut Vec<Row>) -> Resu
 // The table that these bytes hold, its rows put into an empty list that has room for them.
 pub(crate) fn read_table(form: Form, bytes: &[u8], mut rows: Vec<Row>) -> Result<Table, TableFault>
     requires { ⌜ limit form ≤ vec-cap rows ⌝ ∗ ⌜ Empty rows ⌝ }
-    ensures { λ r. ⌜ Answers (table-fault form (now (bytes .entry))) r (λ t. Reads (now (bytes .entry)) t × (lawful-rows form (t .flags) (t .codes) (vec-items (t .rows)) ≡ true)) ⌝ }
+    ensures { λ r. ⌜ Answers (table-fault form (now (bytes .entry))) r (λ t. Reads (now (bytes .entry)) t × (bytes-of t ≡ now (bytes .entry)) × (lawful-rows form (t .flags) (t .codes) (vec-items (t .rows)) ≡ true) × (length (vec-items (t .rows)) ≤ limit form)) ⌝ }
 {
     let [high, low, flags, codes, rest @ ..] = bytes else {
         return Err(TableFault::Short);

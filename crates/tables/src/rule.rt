@@ -2,6 +2,7 @@
 ghost use mathlib.Core.Path.{_≡_};
 ghost use mathlib.Core.Bool.{true};
 ghost use Prim.Native.Nat.{_≤_};
+ghost use lib.ListN.{length};
 ghost use Rattle.std.specs.Of.Vec.{vec-items, vec-cap};
 ghost use Rattle.rows.specs.Homes.{homes as homes-of};
 ghost use Rattle.rows.specs.Rows.{item-of};
@@ -12,7 +13,8 @@ ghost use Rattle.tables.specs.Lawful.{lawful-rows, lawful-rule};
 ghost use Rattle.tables.specs.Memory.{Empty};
 ghost use Rattle.tables.specs.Places.{Places};
 ghost use Rattle.tables.specs.declared.form.Form.the-variants.{Rule as RuleForm};
-ghost use Rattle.tables.specs.Reading.{Reads};
+ghost use Rattle.tables.specs.Reading.{Reads, Both, bytes-of, needed};
+ghost use Rattle.tables.specs.Writing.{buffer-fault, written};
 use crate::check::check_rule;
 use crate::fault::TableFault;
 use crate::form::Form;
@@ -20,6 +22,7 @@ use crate::homes::find_homes;
 use crate::memory::RuleMemory;
 use crate::read::read_table;
 use crate::table::Table;
+use crate::write::write_table;
 use rows::Home;
 
 #[derive(Drop)]
@@ -29,13 +32,14 @@ pub struct Rule {
     homes: Vec<Home>,
     ghost lawful: { lawful-rows RuleForm (table .flags) (table .codes) (vec-items (table .rows)) ≡ true },
     ghost checked: { lawful-rule (vec-items (table .rows)) ≡ true },
+    ghost few: { length (vec-items (table .rows)) ≤ 1024 },
     ghost placed: { vec-items homes ≡ homes-of (vec-items (table .rows)) },
 }
 
 impl Rule {
     // The rule that these bytes hold.
     pub fn read(bytes: &[u8], memory: RuleMemory) -> Result<Rule, TableFault>
-        ensures value { λ r. ⌜ Answers (rule-bytes-fault (now (bytes .entry))) r (λ rule. Reads (now (bytes .entry)) (rule .table)) ⌝ }
+        ensures value { λ r. ⌜ Answers (rule-bytes-fault (now (bytes .entry))) r (λ rule. Reads (now (bytes .entry)) (rule .table) × (bytes-of (rule .table) ≡ now (bytes .entry))) ⌝ }
         ensures places { λ _. ⌜ Places (now (bytes .entry)) ⌝ }
     {
         let RuleMemory { rows, homes } = memory;
@@ -67,5 +71,25 @@ impl Rule {
         ensures { λ r. ⌜ r ≡ item-of (homes-of (vec-items (now (self .entry) .table .rows))) number Outside ⌝ }
     {
         self.homes.get(number).copied()
+    }
+
+    // The number of its bytes.
+    pub fn written_len(&self) -> usize
+        ensures { λ r. ⌜ r ≡ needed (now (self .entry) .table) ⌝ }
+    {
+        4 + 5 * self.table.len()
+    }
+
+    // Writes its bytes to the start of a buffer, and tells their number.
+    pub fn write(&self, buffer: &mut [u8]) -> Result<usize, TableFault>
+        ensures value { λ r. ⌜ Answers (buffer-fault (needed (now (self .entry) .table)) (now (buffer .entry))) r (λ n. (n ≡ needed (now (self .entry) .table)) × Both rule-bytes-fault (now (self .entry) .table)) ⌝ }
+        ensures after { λ _. ⌜ now (buffer .exit) ≡ written (needed (now (self .entry) .table)) (bytes-of (now (self .entry) .table)) (now (buffer .entry)) ⌝ }
+    {
+        let needed = self.written_len();
+        if buffer.len() < needed {
+            return Err(TableFault::BufferShort(needed));
+        }
+        write_table(&self.table, buffer);
+        Ok(needed)
     }
 }

@@ -1,4 +1,4 @@
-use mathlib.Core.Path.{refl, _∙_}
+use mathlib.Core.Path.{refl, sym, _∙_}
 use native.Mathlib.Omega.{arith}
 use borrow.Author.Needs.{needs}
 use lib.ListN.{length}
@@ -7,7 +7,8 @@ use Rattle.tables.specs.Format.{stated-flags, stated-codes, rows-in}
 use Rattle.tables.specs.Reading.{Reads}
 use Rattle.tables.specs.declared.table.Table.{Table}
 use Rattle.tables.proofs.Bytes.{sized-fault}
-use Rattle.tables.proofs.Sound.{read-fine}
+use Rattle.tables.proofs.Both.{same-bytes}
+use Rattle.tables.proofs.Sound.{read-fine, fine-sizes}
 use Rattle.refusals.proofs.Exits.{exit}
 use Rattle.tables.proofs.read.read_table.Needs as need
 
@@ -25,4 +26,5 @@ returns c =
     let fine = sized-fault (c .args .form) (c .args .bytes .now) _ (c .from .result) _ (search needs) n-is rest-is (c .in-Continue-check .ensures tt) (c .in-Continue-check-length .ensures tt) (read .0) in
     let table : Table = record { flags = stated-flags (c .args .bytes .now); codes = stated-codes (c .args .bytes .now); rows = c .read-rows .last .rows } in
     let reads : Reads (c .args .bytes .now) table = record { flags = refl; codes = refl; rows = read .1 ∙ (λ d. rows-in (rest-is d) (n-is d)) } in
-    (fine, (reads, read-fine (c .args .form) (c .args .bytes .now) table reads fine))
+    let lawful = read-fine (c .args .form) (c .args .bytes .now) table reads fine in
+    (fine, (reads, sym (same-bytes (c .args .form) table (c .args .bytes .now) (λ i. c .typed .bytes i .fits) fine reads), lawful, fine-sizes (c .args .form) _ _ _ lawful .1))

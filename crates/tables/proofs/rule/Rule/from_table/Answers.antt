@@ -28,4 +28,4 @@ pub ghost-result : need.ghost-result
 unfolding lawful-rule
 ghost-result c =
     let checked = rw (c .as-slice-2 .ensures .value) at (c .in-Continue-check-rule .ensures tt) in
-    (c .pre .fine, (ap none-found checked, (c .find-homes .ensures ∙ ap homes (c .as-slice .ensures .value), tt)))
+    (c .pre .fine, (ap none-found checked, (fine-sizes Rule _ _ _ (c .pre .fine) .1, (c .find-homes .ensures ∙ ap homes (c .as-slice .ensures .value), tt))))
