@@ -3,6 +3,8 @@ mod line;
 mod listing;
 mod plain;
 #[cfg(test)]
+mod round_trips;
+#[cfg(test)]
 mod tests;
 
 pub use line::refused_file_line;

@@ -19,7 +19,7 @@ fn table_lists(heap: Global, table: &[u8], text: &str) -> Result<(), Fail> {
 }
 
 // A table of this many rows: a top, and then a not of the row before each.
-fn chain(heap: Global, rows: u16) -> Result<Vec<u8>, Fail> {
+pub(crate) fn chain(heap: Global, rows: u16) -> Result<Vec<u8>, Fail> {
     let mut table = Vec::new(heap);
     table.extend_from_slice(&rows.to_be_bytes())?;
     table.extend_from_slice(&[0, 0, 1])?;
