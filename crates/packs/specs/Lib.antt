@@ -1,2 +1,4 @@
 pub mod Format
+pub mod Reader
+pub mod Summary
 pub mod Told

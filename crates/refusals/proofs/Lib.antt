@@ -1,2 +1,3 @@
 pub mod Exits
 pub mod First
+pub mod Numbers

@@ -3,6 +3,10 @@ use mathlib.Core.List.{List, _++_}
 use Prim.Native.Nat.{ℕ}
 use lib.Chars.{codes}
 use Rattle.std.specs.Written.{decimal}
+use Rattle.packs.specs.declared.summary.Summary.{Summary}
+
+abbrev pub summary-text : Summary → List ℕ
+summary-text s = decimal (s .rules) ++ (codes " rules, " ++ (decimal (s .rows) ++ (codes " rows, " ++ (decimal (s .refused) ++ codes " refused\n"))))
 
 abbrev pub rule-line : ℕ → ℕ → ℕ → ℕ → List ℕ
 rule-line label rows flags used = decimal label ++ (codes " " ++ (decimal rows ++ (codes " " ++ (decimal flags ++ (codes " " ++ (decimal used ++ codes "\n"))))))

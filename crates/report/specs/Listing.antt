@@ -1,6 +1,6 @@
 -- What is listed of a file that holds a pack.
 use mathlib.Core.Bool.{cond}
-use mathlib.Core.List.{List, []}
+use mathlib.Core.List.{List, _++_}
 use Prim.Native.Nat.{ℕ}
 use lib.Dec.{ltb}
 use lib.ListN.{length}
@@ -14,10 +14,11 @@ use Rattle.tables.specs.Format.{rows-of, stated-flags, stated-codes}
 use Rattle.tables.specs.Told as table
 use Rattle.tables.specs.declared.fault.TableFault.{TableFault}
 use Rattle.packs.specs.Format.{rule-count, label-of, table-of, pack-fault}
+use Rattle.packs.specs.Summary.{summary-of}
 use Rattle.packs.specs.Told as pack
 use Rattle.packs.specs.declared.fault.PackFault.{PackFault}
 use Rattle.packs.specs.declared.fault.PackFault.the-variants.{Length}
-use Rattle.report.specs.Lines.{rule-line, refused-line, file-line}
+use Rattle.report.specs.Lines.{summary-text, rule-line, refused-line, file-line}
 
 -- the line of a rule with this label and this table, in which this fault is found, if any
 abbrev pub line-by : ℕ → List ℕ → Option TableFault → List ℕ
@@ -27,16 +28,13 @@ line-by label bytes (Some fault) = refused-line label (table.told fault .number)
 unfoldable pub line-of : ℕ → List ℕ → List ℕ
 line-of label bytes = line-by label bytes (rule-bytes-fault bytes)
 
--- the line of rule k of a pack, if there is a rule k
+-- the line of rule k of a pack
 abbrev pub line-at : List ℕ → ℕ → List ℕ
 line-at bytes k = line-of (label-of bytes k) (table-of bytes k)
 
-abbrev pub line-if : List ℕ → ℕ → List ℕ
-line-if bytes k = cond (ltb k (rule-count bytes)) (line-at bytes k) []
-
--- the lines of all rules of a pack, in pack order
+-- the summary of a pack, and then the lines of all its rules in pack order
 unfoldable pub lines-of : List ℕ → List ℕ
-lines-of bytes = joined (line-at bytes) (counting 0 (rule-count bytes))
+lines-of bytes = summary-text (summary-of bytes 0) ++ joined (line-at bytes) (counting 0 (rule-count bytes))
 
 abbrev pub refused-pack : PackFault → List ℕ
 refused-pack fault = file-line (pack.told fault .number) (pack.told fault .place)

@@ -4,11 +4,22 @@ ghost use lib.ListN.{length};
 ghost use Rattle.std.specs.Of.String.{string-bytes};
 ghost use Rattle.std.specs.Of.Vec.{vec-items};
 ghost use Rattle.std.specs.Vec.{made};
-ghost use Rattle.report.specs.Lines.{rule-line, refused-line, file-line};
+ghost use Rattle.report.specs.Lines.{summary-text, rule-line, refused-line, file-line};
+use packs::Summary;
 use refusals::Refusal;
 use std::alloc::AllocError;
 use std::alloc::Global;
 use tables::Rule;
+
+// A pack: its rules, the rows of the lawful ones, and how many are refused.
+pub fn summary_line(heap: Global, summary: Summary) -> Result<String, AllocError>
+    ensures { λ r. ⌜ made r (λ s. string-bytes s ≡ summary-text summary) ⌝ }
+{
+    let rules = summary.rules;
+    let rows = summary.rows;
+    let refused = summary.refused;
+    format!(heap, "{rules} rules, {rows} rows, {refused} refused\n")
+}
 
 // A lawful rule: its label, its number of rows, its flags used and its codes used.
 pub fn rule_line(heap: Global, label: u16, rule: &Rule) -> Result<String, AllocError>

@@ -8,14 +8,16 @@ fn lists(heap: Global, pack: &[u8], text: &str) -> Result<(), Fail> {
     check_eq(listing.as_str(), text)
 }
 
-// What is listed of a pack of one rule, label 7, with this table.
+// What is listed, after the summary, of a pack of one rule, label 7, with this table.
 fn table_lists(heap: Global, table: &[u8], text: &str) -> Result<(), Fail> {
     let length = u16::try_from(table.len()).unwrap_or(0);
     let mut pack = Vec::new(heap);
     pack.extend_from_slice(&[0, 1, 0, 7])?;
     pack.extend_from_slice(&length.to_be_bytes())?;
     pack.extend_from_slice(table)?;
-    lists(heap, pack.as_slice(), text)
+    let listing = pack_listing(heap, pack.as_slice())?;
+    let (_, line) = listing.as_str().split_once('\n').ok_or("no summary")?;
+    check_eq(line, text)
 }
 
 // A table of this many rows: a top, and then a not of the row before each.
@@ -137,12 +139,16 @@ fn whole_packs(rt: LibcRuntime) -> Result<(), Fail> {
     lists(heap, &[0, 0], "! 12 0\n")?;
     lists(heap, &[0, 65, 0, 0], "! 12 0\n")?;
     lists(heap, &[0, 1, 0, 7, 0], "! 13 0\n")?;
-    lists(heap, &[0, 1, 0, 7, 0, 0], "7 ! 1 0\n")?;
+    lists(
+        heap,
+        &[0, 1, 0, 7, 0, 0],
+        "1 rules, 0 rows, 1 refused\n7 ! 1 0\n",
+    )?;
     lists(heap, &[0, 1, 0, 7, 0, 0, 0], "! 13 0\n")?;
     lists(heap, &[0, 1, 0, 7, 0, 1], "! 13 0\n")?;
     lists(
         heap,
         &[0, 2, 0, 9, 0, 8, 0, 0, 0, 1, 0],
-        "9 ! 1 0\n8 ! 1 0\n",
+        "2 rules, 0 rows, 2 refused\n9 ! 1 0\n8 ! 1 0\n",
     )
 }

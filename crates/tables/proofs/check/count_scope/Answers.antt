@@ -1,17 +1,13 @@
-use mathlib.Core.Path.{_≡_, refl, sym, ap, _∙_}
+use mathlib.Core.Path.{sym, ap, _∙_}
 use Prim.Native.Nat.{_+_}
-use mathlib.Core.Bool.{Bool, true, false, cond}
-use mir.Val.{boolByte}
+use mathlib.Core.Bool.{cond}
 use native.Mathlib.Omega.{arith}
 use lib.Seq.{take-all}
 use borrow.Author.Needs.{needs}
 use Rattle.std.proofs.shelf.Sums.{sumBy-more}
+use Rattle.refusals.proofs.Numbers.{as-number}
 use Rattle.rows.specs.Homes.{scope-size, in-scope-of}
 use Rattle.tables.proofs.check.count_scope.Needs as need
-
-as-number : (b : Bool) → boolByte b ≡ cond b 1 0
-as-number true = refl
-as-number false = refl
 
 pub loop-home-again : need.loop-home-again
 loop-home-again c =
