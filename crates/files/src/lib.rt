@@ -8,7 +8,7 @@ use std::io::ErrorKind;
 use std::io::Read;
 
 // No file that a program reads may be longer. One byte more is read, so that a longer file is seen to be longer.
-const LONGEST: usize = 65536;
+pub const LONGEST: usize = 65536;
 
 // The bytes of a file, at most one more than the longest may have, and none where there is no such file.
 pub fn read_file(rt: &LibcRuntime, path: &str) -> io::Result<Vec<u8>>
@@ -17,7 +17,7 @@ pub fn read_file(rt: &LibcRuntime, path: &str) -> io::Result<Vec<u8>>
     let mut bytes = Vec::new(rt.alloc());
     match File::open(rt, path) {
         Ok(file) => {
-            file.take(65537).read_to_end(&mut bytes)?;
+            file.take(LONGEST as u64 + 1).read_to_end(&mut bytes)?;
         }
         Err(error) => {
             if error.kind() != ErrorKind::NotFound {

@@ -9,15 +9,13 @@ use crate::line::refused_file_line;
 use crate::line::refused_rule_line;
 use crate::line::rule_line;
 use crate::line::summary_line;
+use files::LONGEST;
 use packs::Pack;
 use packs::PackFault;
 use packs::PackReader;
 use std::alloc::AllocError;
 use std::alloc::Global;
 use tables::RuleMemory;
-
-// A longer file is no pack.
-const LONGEST: usize = 65536;
 
 // The line of the rule at the reader's place, which has this label. The reader goes on by one.
 fn next_line(heap: Global, label: u16, reader: &mut PackReader<'_>) -> Result<String, AllocError>

@@ -8,6 +8,7 @@ ghost use Rattle.std.specs.Vec.{made};
 ghost use Rattle.tables.specs.Reading.{bytes-of};
 ghost use Rattle.report.specs.Plain.{half-text, row-line, head-line, table-lines, listing as listing-of};
 use crate::line::refused_file_line;
+use files::LONGEST;
 use rows::HalfUse;
 use rows::Row;
 use std::alloc::AllocError;
@@ -16,9 +17,6 @@ use tables::PlainMemory;
 use tables::PlainTable;
 use tables::Table;
 use tables::TableFault;
-
-// A longer file is no table.
-const LONGEST: usize = 65536;
 
 // A half of a row's argument after a space, if its kind uses it.
 fn half(heap: Global, of: HalfUse, value: u16) -> Result<String, AllocError>
