@@ -15,6 +15,7 @@ import subprocess
 import sys
 
 TOKEN = re.compile(r"(?<![\w'.·≡≢≤<-])[A-Za-z_][\w']*(?:-[\w']+)+(?![\w'-])")
+FIELD = re.compile(r"\.([A-Za-z_][\w']*(?:-[\w']+)+)(?![\w'-])")
 DEFINED = re.compile(r"^\s*(?:pub |abbrev |unfoldable )*([A-Za-z_][\w']*(?:-[\w']+)+) :(?! (?:goal|given|need)\.)", re.M)
 USE = re.compile(r"^[ \t]*(?:pub )?(?:ghost )?use ([\w.]+)\.\{([^}]*)\}", re.M)
 # Made by Rattle: the branches of the code.
@@ -44,6 +45,23 @@ def imports(text):
             yield module, name.strip().split(" as ")[0]
 
 
+def own_fields(texts):
+    """Fields of the repository's own records, which are named after a dot."""
+    found = set()
+    for path, text in texts.items():
+        depth = None
+        for line in text.splitlines() if path.endswith(".antt") else ():
+            indent = len(line) - len(line.lstrip())
+            if re.match(r"\s*(?:pub |abbrev |unfoldable )*record \w", line):
+                depth = indent
+            elif line.strip() and not line.strip().startswith("--") and depth is not None:
+                if indent <= depth:
+                    depth = None
+                elif DEFINED.match(line):
+                    found.add(DEFINED.match(line)[1])
+    return found
+
+
 def own_names(texts):
     own, foreign, goals = set(), set(), set()
     for text in texts.values():
@@ -65,10 +83,14 @@ def own_names(texts):
     return defined | (bound - goals - foreign)
 
 
-def turned(text, names, path):
+def turned(text, names, fields, path):
     def one(match):
         name = match[0]
         return respelled(name) if name in names else name
+
+    def code_turned(code):
+        code = FIELD.sub(lambda m: "." + (respelled(m[1]) if m[1] in fields else m[1]), code)
+        return TOKEN.sub(one, code)
 
     out = []
     for line in text.splitlines(keepends=True):
@@ -76,9 +98,9 @@ def turned(text, names, path):
         code, sep, comment = line.partition(mark)
         if '"' in code and path.endswith(".rt"):
             parts = code.split('"')
-            code = '"'.join(p if i % 2 else TOKEN.sub(one, p) for i, p in enumerate(parts))
+            code = '"'.join(p if i % 2 else code_turned(p) for i, p in enumerate(parts))
         else:
-            code = TOKEN.sub(one, code)
+            code = code_turned(code)
         comment = TOKEN.sub(lambda m: m[0] if m[0] in WORDS else one(m), comment)
         out.append(code + sep + comment)
     return "".join(out)
@@ -110,14 +132,14 @@ def rename_crates():
 
 def main():
     texts = {path: open(path, encoding="utf-8").read() for path in files()}
-    names = own_names(texts)
+    names, fields = own_names(texts), own_fields(texts)
     clashes = [c for c in fallen_together(texts, names) if not c[0].endswith(".rt")]
     for path, name, other in fallen_together(texts, names):
         print(f"{path}: {name} falls together with {other}")
     if clashes and "--anyway" not in sys.argv:
         return 1
     for path, text in texts.items():
-        new = turned(text, names, path)
+        new = turned(text, names, fields, path)
         if new != text:
             open(path, "w", encoding="utf-8").write(new)
     pages = ["README.md"] + [os.path.join("docs", n) for n in sorted(os.listdir("docs")) if n.endswith(".md")]

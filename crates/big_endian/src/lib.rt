@@ -1,4 +1,6 @@
 // Numbers in bytes, the high byte first. A byte past the end is 0.
+#![tactic(auto)]
+
 ghost use Rattle.std.specs.Prelude.{◌≡◌, drop, slice_index};
 ghost use Rattle.big_endian.specs.Numbers.{word_at, long_at};
 

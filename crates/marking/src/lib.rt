@@ -1,4 +1,6 @@
 // Marking a session by a table.
+#![tactic(auto)]
+
 mod fault;
 mod marks;
 mod straight;

@@ -36,7 +36,7 @@ pub(crate) fn state_mark<M: Scale>(
     marks: &[M],
 ) -> M
     requires fits { (Fits row.kind number row.left row.right) × (number < count) }
-    requires count_bound { (count ≤ 5120) × (2 * count ≤ length marks.now) }
+    requires long { (count ≤ 5120) × (2 * count ≤ length marks.now) }
     ensures { result ≡ state_by M.Scale.ops row.kind row.left state.now later (slice_index_or marks.now row.left M.Scale.ops.top) (slice_index_or marks.now row.right M.Scale.ops.top) (slice_index_or marks.now (count + row.left) M.Scale.ops.top) (slice_index_or marks.now (count + number) M.Scale.ops.top) }
 {
     let left = usize::from(row.left);

@@ -44,8 +44,8 @@ module _ {M : Type 0} (L : Lattice M) (laws : Laws L) (p : State → Bool) (G : 
       ∙ go (p state) (filter p w)
     where
       go : (b : Bool) (v : List State) → L.meet (L.join (L.complement (sharp L b)) (A (cond b (state ∷ v) v))) (always_mark L A v) ≡ always_mark L A (cond b (state ∷ v) v)
-      go true v = rw (complement_top L laws, laws.join-bottom)
-      go false v = rw (complement_bottom L laws, join_top L laws, laws.meet-top)
+      go true v = rw (complement_top L laws, laws.join_bottom)
+      go false v = rw (complement_bottom L laws, join_top L laws, laws.meet_top)
 
   eventually_gated : (A A' : List State → M) → ((w : List State) → A' w ≡ A (filter p w)) → (w : List State) → eventually_mark L (and_in L G A') w ≡ eventually_mark L A (filter p w)
   unfolding joins
@@ -56,8 +56,8 @@ module _ {M : Type 0} (L : Lattice M) (laws : Laws L) (p : State → Bool) (G : 
       ∙ go (p state) (filter p w)
     where
       go : (b : Bool) (v : List State) → L.join (L.meet (sharp L b) (A (cond b (state ∷ v) v))) (eventually_mark L A v) ≡ eventually_mark L A (cond b (state ∷ v) v)
-      go true v = rw laws.meet-top
-      go false v = rw (meet_bottom L laws, laws.join-bottom)
+      go true v = rw laws.meet_top
+      go false v = rw (meet_bottom L laws, laws.join_bottom)
 
   until_gated : (A A' B B' : List State → M) → ((w : List State) → A' w ≡ A (filter p w)) → ((w : List State) → B' w ≡ B (filter p w)) → (w : List State) → until_mark L (or_out L G A') (and_in L G B') w ≡ until_mark L A B (filter p w)
   unfolding joins
@@ -68,8 +68,8 @@ module _ {M : Type 0} (L : Lattice M) (laws : Laws L) (p : State → Bool) (G : 
       ∙ go (p state) (filter p w)
     where
       go : (b : Bool) (v : List State) → L.join (L.meet (sharp L b) (B (cond b (state ∷ v) v))) (L.meet (L.join (L.complement (sharp L b)) (A (cond b (state ∷ v) v))) (until_mark L A B v)) ≡ until_mark L A B (cond b (state ∷ v) v)
-      go true v = rw (laws.meet-top, complement_top L laws, laws.join-bottom) (sym (until_step L laws A B state v))
-      go false v = rw (meet_bottom L laws, complement_bottom L laws, join_top L laws, laws.meet-top, laws.join-bottom)
+      go true v = rw (laws.meet_top, complement_top L laws, laws.join_bottom) (sym (until_step L laws A B state v))
+      go false v = rw (meet_bottom L laws, complement_bottom L laws, join_top L laws, laws.meet_top, laws.join_bottom)
 
   -- what C is on the states that pass, if C is bottom on the empty session, and A at a state that passes is C there
   first_gated : (A C : List State → M) → C [] ≡ L.bottom → ((state : State) (w : List State) → p state ≡ true → A (state ∷ w) ≡ C (state ∷ filter p w)) → (w : List State) → at_first L G A w ≡ C (filter p w)
@@ -80,8 +80,8 @@ module _ {M : Type 0} (L : Lattice M) (laws : Laws L) (p : State → Bool) (G : 
       ∙ go (p state) (first state w)
     where
       go : (b : Bool) → (b ≡ true → A (state ∷ w) ≡ C (state ∷ filter p w)) → L.join (L.meet (sharp L b) (A (state ∷ w))) (L.meet (L.complement (sharp L b)) (C (filter p w))) ≡ C (cond b (state ∷ filter p w) (filter p w))
-      go true here = rw (laws.meet-top, complement_top L laws, meet_bottom L laws, join_bottom_right L laws) (here refl)
-      go false here = rw (meet_bottom L laws, complement_bottom L laws, laws.meet-top, laws.join-bottom)
+      go true here = rw (laws.meet_top, complement_top L laws, meet_bottom L laws, join_bottom_right L laws) (here refl)
+      go false here = rw (meet_bottom L laws, complement_bottom L laws, laws.meet_top, laws.join_bottom)
 
   held_gated : (A A' : List State → M) → ((w : List State) → A' w ≡ A (filter p w)) → (w : List State) → at_first L G A' w ≡ held L A (filter p w)
   held_gated A A' same = first_gated A' (held L A) refl (λ state w here. same (state ∷ w) ∙ ap (λ b. A (cond b (state ∷ filter p w) (filter p w))) here)

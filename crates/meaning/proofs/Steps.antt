@@ -43,7 +43,7 @@ module _ {M : Type 0} (L : Lattice M) where
   joins_meet laws a zero f = sym (meet_bottom_right L laws a)
   joins_meet laws a (suc n) f =
       ap (L.join (L.meet a (f 0))) (joins_meet laws a n (λ i. f (suc i)))
-      ∙ sym (laws.meet-over-join a (f 0) (joins L n (λ i. f (suc i))))
+      ∙ sym (laws.meet_over_join a (f 0) (joins L n (λ i. f (suc i))))
 
   pub until_step : Laws L → (a b : List State → M) (state : State) (w : List State) → until_mark L a b (state ∷ w) ≡ L.join (b (state ∷ w)) (L.meet (a (state ∷ w)) (until_mark L a b w))
   unfolding meets joins

@@ -1,6 +1,6 @@
 -- What each operator makes of the marks of its operands: meets and joins over the positions of a session. An operand is a
 -- function from sessions to marks, and "w from i", w without its first i states, is drop i w.
-use Rattle.std.specs.Prelude.{ℕ, zero, suc, Bool, cond, List, [], ◌∷◌, length, drop, nat_lt}
+use Rattle.std.specs.Prelude.{ℕ, zero, suc, cond, List, [], ◌∷◌, length, drop, nat_lt}
 use Rattle.scales.specs.Lattice.{Lattice}
 use Rattle.sessions.specs.States.{has_flag, code_of}
 use Rattle.sessions.specs.declared.state.State.{State}

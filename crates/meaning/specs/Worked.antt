@@ -2,7 +2,6 @@
 use Rattle.std.specs.Prelude.{◌≡◌, ℕ, List, [], ◌∷◌, ℤ, pos, negsuc}
 use Rattle.scales.specs.Scores.{scores}
 use Rattle.scales.specs.YesNo.{yes_no}
-use Rattle.scales.specs.declared.score.Score.{Score}
 use Rattle.scales.specs.declared.yes_no.YesNo.{YesNo}
 use Rattle.scales.specs.declared.yes_no.YesNo.TheVariants.{No, Yes}
 use Rattle.sessions.specs.declared.state.State.{State}

@@ -1,4 +1,6 @@
 // Lists the rules of the pack `rules.pack` in the working folder.
+#![tactic(auto)]
+
 use files::read_file;
 use report::pack_listing;
 

@@ -1,5 +1,5 @@
 -- Loading the rule at a place.
-use Rattle.std.proofs.Common.{◌≡◌, ℕ, ◌<◌, Bool, true, false, cond, ltb, List, Some, None, Option, sym, refl, ap, ◌∙◌, subst, arith, ltb-true, lt-ltb}
+use Rattle.std.proofs.Common.{◌≡◌, ℕ, ◌<◌, Bool, true, false, cond, ltb, List, Some, None, Option, sym, refl, ap, ◌∙◌, arith, ltb-true, lt-ltb}
 use Rattle.tables.specs.Faults.{rule_bytes_fault}
 use Rattle.packs.specs.Format.{rule_count, table_of, table_if}
 use Rattle.packs.specs.Reader.{load_fault, loaded, loaded_by}

@@ -1,4 +1,6 @@
 // Packs of rules: a checked view of a pack's bytes, and what is refused of a pack.
+#![tactic(auto)]
+
 mod fault;
 mod look;
 mod pack;

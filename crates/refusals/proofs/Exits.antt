@@ -1,5 +1,5 @@
 -- What the exit of a `?` answers.
-use Rattle.std.proofs.Common.{◌≡◌, IsErrAnd, Some, Err, Option, Result, sym, ap, ◌∙◌, subst}
+use Rattle.std.proofs.Common.{◌≡◌, IsErrAnd, Some, Option, Result, sym, ap, ◌∙◌, subst}
 use Rattle.std.proofs.lemmas.Result.{err_from_is_err_and}
 use Rattle.refusals.specs.Answers.{Answers}
 

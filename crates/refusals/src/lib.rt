@@ -1,4 +1,5 @@
 // What is told of every refusal: its number, the place it names, and the layer that refuses.
+#![tactic(auto)]
 
 #[derive(Clone, Copy, Debug, PartialEq)]
 pub enum Layer {

@@ -1,7 +1,6 @@
 -- What is listed of a file that holds a pack.
 use Rattle.std.specs.Prelude.{ℕ, cond, List, ◌++◌, length, Some, None, Option, nat_lt}
 use Rattle.std.specs.List.{range_with_len, flat_map}
-use Rattle.refusals.specs.declared.Refusal.{Refusal}
 use Rattle.tables.specs.Faults.{rule_bytes_fault}
 use Rattle.tables.specs.Format.{rows_of, stated_flags, stated_codes}
 use Rattle.tables.specs.Told as table

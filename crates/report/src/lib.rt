@@ -1,4 +1,6 @@
 // The lines that programs print.
+#![tactic(auto)]
+
 mod line;
 mod listing;
 mod plain;

@@ -1,5 +1,5 @@
 -- What stands at a place of a list, if anything does.
-use Rattle.std.proofs.Common.{◌≡◌, ℕ, ◌<◌, ◌≤◌, Bool, true, false, cond, ltb, List, length, get_or, Some, None, Option, refl, arith, ltb-false, ltb-true}
+use Rattle.std.proofs.Common.{◌≡◌, ℕ, ◌<◌, ◌≤◌, Bool, true, false, cond, ltb, List, length, get_or, Some, None, refl, arith, ltb-false, ltb-true}
 use Rattle.rows.specs.Rows.{item_of}
 
 pub item_there : {X : Type 0} (xs : List X) (i : ℕ) (d x : X) → Some x ≡ item_of xs i d → (i < length xs) × (x ≡ get_or xs i d)

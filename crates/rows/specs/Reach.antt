@@ -1,5 +1,5 @@
 -- Bodies and scopes of in rows, by what is reached from their halves.
-use Rattle.std.specs.Prelude.{◌≡◌, ℕ, ◌+◌, ◌<◌, ◌≤◌, Bool, true, ◌||◌, List, length, get_or, ◌≢◌, slice_index_or}
+use Rattle.std.specs.Prelude.{◌≡◌, ℕ, ◌+◌, ◌<◌, ◌≤◌, true, ◌||◌, List, length, get_or, ◌≢◌, slice_index_or}
 use Rattle.rows.specs.Homes.{home, in_scope}
 use Rattle.rows.specs.Kinds.{is_in}
 use Rattle.rows.specs.Rows.{blank, left_is, right_is, uses}

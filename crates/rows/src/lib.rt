@@ -1,4 +1,6 @@
 // Rows of a table, the constant tables by kind, and where a row of a rule stands.
+#![tactic(auto)]
+
 mod home;
 mod kind;
 mod row;

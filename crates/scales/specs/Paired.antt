@@ -12,15 +12,15 @@ module _ {A B : Type 0} where
   pair_laws k l = record {
     apart = λ e. k.apart (ap (λ p. p.first) e);
     meet_comm = λ p q. same_pair (k.meet_comm p.first q.first) (l.meet_comm p.second q.second);
-    join_comm = λ p q. same_pair (k.join-comm p.first q.first) (l.join-comm p.second q.second);
-    meet_assoc = λ p q r. same_pair (k.meet-assoc p.first q.first r.first) (l.meet-assoc p.second q.second r.second);
-    join_assoc = λ p q r. same_pair (k.join-assoc p.first q.first r.first) (l.join-assoc p.second q.second r.second);
-    meet_absorbs = λ p q. same_pair (k.meet-absorbs p.first q.first) (l.meet-absorbs p.second q.second);
-    join_absorbs = λ p q. same_pair (k.join-absorbs p.first q.first) (l.join-absorbs p.second q.second);
-    meet_over_join = λ p q r. same_pair (k.meet-over-join p.first q.first r.first) (l.meet-over-join p.second q.second r.second);
-    join_over_meet = λ p q r. same_pair (k.join-over-meet p.first q.first r.first) (l.join-over-meet p.second q.second r.second);
-    meet_top = λ p. same_pair (k.meet-top p.first) (l.meet-top p.second);
-    join_bottom = λ p. same_pair (k.join-bottom p.first) (l.join-bottom p.second);
+    join_comm = λ p q. same_pair (k.join_comm p.first q.first) (l.join_comm p.second q.second);
+    meet_assoc = λ p q r. same_pair (k.meet_assoc p.first q.first r.first) (l.meet_assoc p.second q.second r.second);
+    join_assoc = λ p q r. same_pair (k.join_assoc p.first q.first r.first) (l.join_assoc p.second q.second r.second);
+    meet_absorbs = λ p q. same_pair (k.meet_absorbs p.first q.first) (l.meet_absorbs p.second q.second);
+    join_absorbs = λ p q. same_pair (k.join_absorbs p.first q.first) (l.join_absorbs p.second q.second);
+    meet_over_join = λ p q r. same_pair (k.meet_over_join p.first q.first r.first) (l.meet_over_join p.second q.second r.second);
+    join_over_meet = λ p q r. same_pair (k.join_over_meet p.first q.first r.first) (l.join_over_meet p.second q.second r.second);
+    meet_top = λ p. same_pair (k.meet_top p.first) (l.meet_top p.second);
+    join_bottom = λ p. same_pair (k.join_bottom p.first) (l.join_bottom p.second);
     twice = λ p. same_pair (k.twice p.first) (l.twice p.second);
     turns = λ p q. same_pair (k.turns p.first q.first) (l.turns p.second q.second);
   }

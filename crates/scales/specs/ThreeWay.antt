@@ -1,6 +1,7 @@
 -- The three-way scale: a code reads by its sign.
 use Rattle.std.specs.Prelude.{cond, ℤ, pos, int_lt}
-use Rattle.scales.specs.Lattice.{Lattice}
+use Rattle.std.proofs.Common.{rules}
+use Rattle.scales.specs.Lattice.{Lattice, Laws}
 use Rattle.scales.specs.declared.three_way.ThreeWay.{ThreeWay}
 use Rattle.scales.specs.declared.three_way.ThreeWay.TheVariants.{No, Unknown, Yes}
 
@@ -35,3 +36,6 @@ three_way = record {
   join = higher;
   reading = by_sign;
 }
+
+pub three_way_laws : Laws three_way
+three_way_laws = search rules

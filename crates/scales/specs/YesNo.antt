@@ -1,6 +1,7 @@
 -- The yes/no scale: a code above 0 reads yes.
-use Rattle.std.specs.Prelude.{Bool, true, false, cond, ℤ, pos, int_lt}
-use Rattle.scales.specs.Lattice.{Lattice}
+use Rattle.std.specs.Prelude.{Bool, true, false, cond, pos, int_lt}
+use Rattle.std.proofs.Common.{rules}
+use Rattle.scales.specs.Lattice.{Lattice, Laws}
 use Rattle.scales.specs.declared.yes_no.YesNo.{YesNo}
 use Rattle.scales.specs.declared.yes_no.YesNo.TheVariants.{No, Yes}
 
@@ -32,3 +33,6 @@ yes_no = record {
   join = either;
   reading = λ code. answer (int_lt (pos 0) code);
 }
+
+pub yes_no_laws : Laws yes_no
+yes_no_laws = search rules

@@ -1,4 +1,6 @@
 // Mark scales: the trait, the three scales of the engine, and the pair of any two.
+#![tactic(auto)]
+
 mod pair;
 mod pairs;
 mod scale;

@@ -1,8 +1,6 @@
 // The scale of scores.
 ghost use Rattle.scales.specs.Scores.{scores};
-ghost use Rattle.std.proofs.Common.{arith, ap};
-ghost use Rattle.std.proofs.lemmas.Int.{ints, clamps};
-ghost use Rattle.scales.specs.SameScore.{same_score};
+ghost use Rattle.scales.specs.SameScore.{score_laws};
 
 use crate::scale::Scale;
 use crate::score::Score;
@@ -10,21 +8,7 @@ use crate::score::Score;
 impl Scale for Score {
     ghost ops = { scores };
 
-    ghost kept = { record {
-      apart = λ e. let v = ap (λ s. s.value) e in omega (arith, ints);
-      meet_comm = λ a b. same_score _ _ (omega (arith, ints, clamps));
-      join_comm = λ a b. same_score _ _ (omega (arith, ints, clamps));
-      meet_assoc = λ a b c. same_score _ _ (omega (arith, ints, clamps));
-      join_assoc = λ a b c. same_score _ _ (omega (arith, ints, clamps));
-      meet_absorbs = λ a b. same_score _ _ (omega (arith, ints, clamps));
-      join_absorbs = λ a b. same_score _ _ (omega (arith, ints, clamps));
-      meet_over_join = λ a b c. same_score _ _ (omega (arith, ints, clamps));
-      join_over_meet = λ a b c. same_score _ _ (omega (arith, ints, clamps));
-      meet_top = λ a. same_score _ _ (omega (arith, ints, clamps));
-      join_bottom = λ a. same_score _ _ (omega (arith, ints, clamps));
-      twice = λ a. same_score _ _ (omega (arith, ints));
-      turns = λ a b. same_score _ _ (omega (arith, ints, clamps));
-    } };
+    ghost kept = { score_laws };
 
     fn bottom() -> Score {
         Score { value: -100 }

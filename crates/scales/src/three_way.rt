@@ -1,6 +1,5 @@
 // The three-way scale.
-ghost use Rattle.scales.specs.ThreeWay.{three_way};
-ghost use Rattle.std.proofs.Common.{rules};
+ghost use Rattle.scales.specs.ThreeWay.{three_way, three_way_laws};
 
 use crate::scale::Scale;
 
@@ -15,7 +14,7 @@ pub enum ThreeWay {
 impl Scale for ThreeWay {
     ghost ops = { three_way };
 
-    ghost kept = { Prim.search rules };
+    ghost kept = { three_way_laws };
 
     fn bottom() -> Self {
         Self::No

@@ -1,7 +1,6 @@
 // The yes/no scale.
 ghost use Rattle.std.specs.Prelude.{◌≡◌};
-ghost use Rattle.scales.specs.YesNo.{yes_no, is_yes};
-ghost use Rattle.std.proofs.Common.{rules};
+ghost use Rattle.scales.specs.YesNo.{yes_no, yes_no_laws, is_yes};
 
 use crate::scale::Scale;
 
@@ -23,7 +22,7 @@ impl YesNo {
 impl Scale for YesNo {
     ghost ops = { yes_no };
 
-    ghost kept = { Prim.search rules };
+    ghost kept = { yes_no_laws };
 
     fn bottom() -> Self {
         Self::No

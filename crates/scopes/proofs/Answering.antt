@@ -1,8 +1,7 @@
 -- What is answered of a row number and a state.
-use Rattle.std.proofs.Common.{◌≡◌, ℕ, zero, suc, ◌<◌, ◌≤◌, Bool, true, false, cond, ltb, List, [], ◌∷◌, length, get_or, Some, None, Option, sym, refl, ap, ◌∙◌, subst, ⊎_elim, arith, lt-ltb}
+use Rattle.std.proofs.Common.{◌≡◌, ℕ, zero, suc, ◌<◌, ◌≤◌, Bool, true, false, cond, List, [], ◌∷◌, length, get_or, Some, None, Option, sym, refl, ap, ◌∙◌, subst, arith, lt-ltb}
 use Rattle.std.proofs.lemmas.List.{get_or_past}
-use Rattle.std.proofs.lemmas.Bool.{cases_Bool, and_parts}
-use Rattle.rows.specs.Homes.{home, in_scope as scope_home}
+use Rattle.std.proofs.lemmas.Bool.{and_parts}
 use Rattle.rows.specs.Kinds.{is_in, may_scope}
 use Rattle.rows.specs.Reach.{Operand, Reached, here, down}
 use Rattle.rows.specs.Rows.{blank, item_of}
@@ -10,27 +9,25 @@ use Rattle.rows.specs.declared.row.Row.{Row}
 use Rattle.rows.specs.declared.kind.HalfUse.TheVariants.{Operand as OperandUse}
 use Rattle.rows.proofs.Halves.{half, half_use, in_use}
 use Rattle.rows.proofs.Items.{item_past}
-use Rattle.rows.proofs.Operands.{given_new, in_within, reached_low}
+use Rattle.rows.proofs.Operands.{in_within, reached_low}
 use Rattle.rows.proofs.Standing.{scoped}
 use Rattle.tables.specs.Lawful.{rows_fault, lawful_rows}
 use Rattle.tables.specs.declared.form.Form.TheVariants.{Rule}
 use Rattle.tables.proofs.Sound.{none_is}
 use Rattle.tables.proofs.Trees.{tree_below}
 use Rattle.scales.specs.YesNo.{yes_no, is_yes, opposite, both, either}
-use Rattle.scales.specs.declared.yes_no.YesNo.{YesNo}
 use Rattle.scales.specs.declared.yes_no.YesNo.TheVariants.{No, Yes}
 use Rattle.sessions.specs.States.{no_state, flag_of}
 use Rattle.sessions.specs.declared.state.State.{State}
 use Rattle.meaning.specs.Formulas.{Formula, top, flag, code, not, and, or, next, until, always, eventually, inside, formula_at}
 use Rattle.meaning.specs.Gated.{Propositional}
-use Rattle.meaning.specs.Logic.{Holds, Agrees}
 use Rattle.meaning.specs.Meaning.{mark, in_scope}
 use Rattle.meaning.proofs.Formulas.{formula_row}
 use Rattle.meaning.proofs.Matches.{is_yes_true}
 use Rattle.meaning.proofs.Satisfaction.{agrees}
 use Rattle.scopes.specs.Answered.{scope_of, scope_answer, answer_at, HoldsAlone}
 use Rattle.scopes.specs.Ruled.{Ruled, ScopeRoot, all_may_scope}
-use Rattle.scopes.proofs.Rules.{operand_below, operand_stands}
+use Rattle.scopes.proofs.Rules.{operand_below}
 use Rattle.scopes.proofs.Evaluated.{operand_root}
 use Rattle.scopes.proofs.Scopes.{propositional_by}
 

@@ -1,5 +1,5 @@
 -- What is answered to the question whether a state is in a scope of a rule.
-use Rattle.std.specs.Prelude.{◌≡◌, ℕ, ◌-◌, Bool, true, cond, ◌&&◌, List, [], ◌∷◌, length, get_or, Some, None, Option, nat_lt, slice_index_or}
+use Rattle.std.specs.Prelude.{◌≡◌, ℕ, ◌-◌, Bool, true, cond, List, [], ◌∷◌, length, get_or, Some, None, Option, nat_lt, slice_index_or}
 use Rattle.rows.specs.Kinds.{is_in}
 use Rattle.rows.specs.Rows.{blank}
 use Rattle.rows.specs.declared.row.Row.{Row}

@@ -1,4 +1,6 @@
 // Scopes: whether a state is in the scope of an in row of a rule, and scopes by themselves.
+#![tactic(auto)]
+
 mod rule;
 mod scope;
 

@@ -1,9 +1,9 @@
 -- The text of a state, piece by piece.
-use Rattle.std.proofs.Common.{◌≡◌, ℕ, ◌+◌, Bool, true, false, cond, eqb, List, [], ◌++◌, codes, decimal, sym, refl, ap, ◌∙◌, append-nil, arith}
+use Rattle.std.proofs.Common.{◌≡◌, ℕ, ◌+◌, Bool, true, false, cond, List, [], ◌++◌, codes, decimal, sym, refl, ap, ◌∙◌, append-nil}
 use Rattle.std.specs.List.{range_with_len, flat_map}
 use Rattle.std.specs.Fmt.{signed_decimal}
 use Rattle.std.proofs.lemmas.Bool.{ne_eqb}
-use Rattle.sessions.specs.States.{has_flag, code_of, Alike}
+use Rattle.sessions.specs.States.{has_flag, Alike}
 use Rattle.sessions.specs.declared.state.State.{State}
 use Rattle.report.proofs.Lines.{lines_by_more}
 use Rattle.session_report.specs.Listing.{flag_text, flags_text, flags_or_none, codes_text, state_line}

@@ -1,7 +1,7 @@
 -- A flag of a word turned over.
-use Rattle.std.proofs.Common.{◌≡◌, ℕ, zero, suc, ◌+◌, ◌-◌, ◌*◌, ◌/◌, ◌%◌, ◌^◌, ◌<◌, ◌≤◌, Bool, true, false, cond, not, eqb, ltb, sym, refl, ap, ◌∙◌, ⊎_elim, arith, lt-ltb}
+use Rattle.std.proofs.Common.{◌≡◌, ℕ, zero, suc, ◌+◌, ◌-◌, ◌/◌, ◌%◌, ◌^◌, ◌<◌, ◌≤◌, cond, not, eqb, refl, ap, ◌∙◌, ⊎_elim, arith, lt-ltb}
 use lib.Bits.{bit_xor}
-use Rattle.std.proofs.lemmas.Nat.{pow_pos, pow-add, shl-shr, shr_below, pow_below, xor_shr, xor_mod, mod_below}
+use Rattle.std.proofs.lemmas.Nat.{pow-add, shl-shr, shr_below, pow_below, xor_shr, xor_mod, mod_below}
 use Rattle.std.proofs.lemmas.Bool.{cases_lt}
 use Rattle.std.proofs.lemmas.Bool.Decides.{nat_tests}
 use Rattle.sessions.specs.States.{flag_of}

@@ -1,4 +1,6 @@
 // Sessions: what a state is, and the sources that tell the states of a session.
+#![tactic(auto)]
+
 mod fault;
 mod log;
 mod memory;

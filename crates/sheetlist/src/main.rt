@@ -1,4 +1,6 @@
 // Lists the states of the sheet `session.sheet` in the working folder.
+#![tactic(auto)]
+
 use files::read_file;
 use session_report::sheet_listing;
 

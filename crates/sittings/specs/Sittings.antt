@@ -1,5 +1,5 @@
 -- What recording and taking back do to the list of states of a sitting.
-use Rattle.std.specs.Prelude.{ℕ, ◌-◌, cond, List, [], ◌∷◌, ◌++◌, length, take, Some, None, Option, ◌==◌, nat_lt}
+use Rattle.std.specs.Prelude.{◌-◌, cond, List, [], ◌∷◌, ◌++◌, length, take, Some, None, Option, ◌==◌, nat_lt}
 use Rattle.sessions.specs.declared.state.State.{State}
 use Rattle.sittings.specs.declared.fault.SittingFault.{SittingFault}
 use Rattle.sittings.specs.declared.fault.SittingFault.TheVariants.{Full, NoState}

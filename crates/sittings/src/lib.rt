@@ -1,4 +1,6 @@
 // Sittings: the states of one learner, recorded one by one.
+#![tactic(auto)]
+
 mod closed;
 mod fault;
 mod list;

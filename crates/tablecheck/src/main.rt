@@ -1,4 +1,6 @@
 // Shows the plain table `plain.table` in the working folder row by row.
+#![tactic(auto)]
+
 use files::read_file;
 use report::plain_listing;
 

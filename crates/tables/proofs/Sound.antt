@@ -1,7 +1,6 @@
 -- The table that is read from bytes in which no fault is found is lawful.
-use Rattle.std.proofs.Common.{◌≡◌, ℕ, zero, suc, ◌+◌, ◌-◌, ◌*◌, ◌<◌, ◌≤◌, Bool, true, false, cond, ◌||◌, eqb, ltb, List, map, length, get_or, drop, Some, None, vec_items, Option, unwrap_or, sym, refl, ap, ◌∙◌, subst, arith, ltb-false, eqb-true}
+use Rattle.std.proofs.Common.{◌≡◌, ℕ, ◌+◌, ◌*◌, ◌<◌, ◌≤◌, Bool, true, false, cond, ◌||◌, eqb, List, length, get_or, drop, Some, None, vec_items, Option, unwrap_or, refl, ap, ◌∙◌, arith, ltb-false, eqb-true}
 use borrow.Author.Tests.{eqb-false}
-use Rattle.std.specs.List.{range_with_len}
 use Rattle.std.proofs.lemmas.List.FromFn.{length-map-range_with_len, get_or-map-range_with_len}
 use Rattle.rows.specs.Rows.{blank}
 use Rattle.rows.specs.Kinds.{kind_of}
@@ -10,13 +9,12 @@ use Rattle.rows.specs.declared.kind.Kind.TheVariants.{Top}
 use Rattle.rows.specs.declared.row.Row.{Row}
 use Rattle.std.proofs.lemmas.Bool.{false≢true}
 use Rattle.refusals.specs.First.{then, first_from}
-use Rattle.tables.specs.Faults.{size_fault, length_fault, row_fault, byte_row_fault, fault_at, rest_fault, table_fault, rule_fault}
+use Rattle.tables.specs.Faults.{size_fault, length_fault, row_fault, byte_row_fault, fault_at, rest_fault, table_fault}
 use Rattle.tables.specs.Format.{limit, stated_rows, stated_flags, stated_codes, row_at, rows_in, rows_of, left_at, right_at}
 use Rattle.tables.specs.Lawful.{rows_fault, none_found, lawful_rows}
 use Rattle.tables.specs.Reading.{Reads}
 use Rattle.tables.specs.declared.table.Table.{Table}
 use Rattle.tables.specs.declared.form.Form.{Form}
-use Rattle.tables.specs.declared.form.Form.TheVariants.{Rule, Plain}
 use Rattle.tables.specs.declared.fault.TableFault.{TableFault}
 use Rattle.tables.specs.declared.fault.TableFault.TheVariants.{Short, RowCount, Length}
 use Rattle.refusals.proofs.First.{then_first, then_second, first_none, each_none}

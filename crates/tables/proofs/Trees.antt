@@ -1,25 +1,20 @@
 -- Rows that pass the checks form a tree, so that every home is what its name says.
-use Rattle.std.proofs.Common.{◌≡◌, ℕ, ◌+◌, ◌-◌, ◌<◌, ◌≤◌, Bool, true, false, cond, not, ◌&&◌, ◌||◌, eqb, ltb, List, length, get_or, Some, None, Option, sym, refl, ap, ◌∙◌, subst, ⊎_elim, arith, ltb-true, eqb-true, MatchOption}
-use Rattle.std.specs.List.{slice_get}
+use Rattle.std.proofs.Common.{◌≡◌, ℕ, ◌-◌, ◌<◌, Bool, true, false, cond, not, ◌&&◌, ◌||◌, eqb, List, length, get_or, Some, None, refl, ap, ◌∙◌, ⊎_elim, arith, ltb-true, eqb-true}
 use Rattle.std.proofs.lemmas.List.FromFn.{get_or-map-range_with_len}
 use Rattle.std.proofs.lemmas.List.{get_or_past}
-use Rattle.std.proofs.lemmas.Option.{slice_get-get_or, slice_get_past}
 use Rattle.std.proofs.lemmas.Bool.{cases_lt, false≢true}
-use Rattle.refusals.specs.First.{then, first_from}
-use Rattle.refusals.proofs.First.{then_first, then_second, each_none}
+use Rattle.refusals.proofs.First.{then_second, each_none}
 use Rattle.rows.specs.Homes.{home, homes, in_scope}
 use Rattle.rows.specs.Kinds.{left_use, right_use, is_in, may_scope, zero_kept, number_kept, order_kept, names_row}
-use Rattle.rows.specs.Reach.{Operand, InRow, Tree, Flat, Stands}
+use Rattle.rows.specs.Reach.{Operand, Tree, Flat}
 use Rattle.rows.specs.Rows.{blank, left_is, right_is, uses}
-use Rattle.rows.specs.declared.home.Home.{Home}
 use Rattle.rows.specs.declared.home.Home.TheVariants.{Outside}
 use Rattle.rows.specs.declared.kind.Kind.{Kind}
 use Rattle.rows.specs.declared.kind.HalfUse.{HalfUse}
 use Rattle.rows.specs.declared.kind.HalfUse.TheVariants.{Zero, FlagNumber, CodeNumber, Operand as OperandUse}
 use Rattle.rows.specs.declared.row.Row.{Row}
-use Rattle.rows.proofs.Places.{length_homes}
 use Rattle.rows.proofs.Standing.{stands, scoped}
-use Rattle.tables.specs.Faults.{size_fault, row_fault, check_fault, one_use_fault, scope_kinds_fault, rule_fault, table_fault}
+use Rattle.tables.specs.Faults.{size_fault, row_fault, check_fault, one_use_fault, scope_kinds_fault}
 use Rattle.tables.specs.Format.{knows, rows_of, stated_flags, stated_codes}
 use Rattle.tables.specs.Lawful.{rows_fault}
 use Rattle.tables.specs.Places.{Places}

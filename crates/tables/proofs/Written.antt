@@ -1,22 +1,20 @@
 -- The bytes of a table, and reading them back.
-use Rattle.std.proofs.Common.{◌≡◌, ℕ, zero, suc, ◌+◌, ◌-◌, ◌*◌, ◌/◌, ◌%◌, ◌<◌, ◌≤◌, Bool, true, false, cond, eqb, List, [], ◌∷◌, ◌++◌, map, length, get_or, take, drop, Some, None, Option, unwrap_or, sym, refl, ap, ◌∙◌, subst, ⊎_elim, add-one, arith, eq-eqb}
+use Rattle.std.proofs.Common.{◌≡◌, ℕ, zero, suc, ◌+◌, ◌-◌, ◌*◌, ◌/◌, ◌%◌, ◌<◌, ◌≤◌, cond, List, [], ◌∷◌, map, length, get_or, drop, Some, None, Option, unwrap_or, sym, refl, ap, ◌∙◌, subst, ⊎_elim, arith, eq-eqb}
 use Rattle.std.specs.List.{range_with_len, flat_map}
-use Rattle.std.proofs.lemmas.List.{length-append, length-map, get_or_append_left, get_or-append_right, get_or-map, get_or-drop, ext_get_or, drop_more, drop_all, take_all}
+use Rattle.std.proofs.lemmas.List.{length-append, length-map, get_or_append_left, get_or-append_right, get_or-map, get_or-drop, ext_get_or}
 use Rattle.std.proofs.lemmas.List.FromFn.{length-map-range_with_len, get_or-map-range_with_len}
 use Rattle.std.proofs.lemmas.Bool.{cases_lt}
 use Rattle.std.proofs.lemmas.Bool.Decides.{nat_tests}
-use Rattle.refusals.specs.First.{then, first_from}
 use Rattle.refusals.proofs.First.{then_first, then_second, first_none, each_none}
 use Rattle.rows.specs.Kinds.{number, kind_of}
 use Rattle.rows.specs.Rows.{blank}
 use Rattle.rows.specs.declared.kind.Kind.{Kind}
 use Rattle.rows.specs.declared.kind.Kind.TheVariants.{Top, Flag, Code, Not, And, Or, Next, Until, Always, Eventually, In}
 use Rattle.rows.specs.declared.row.Row.{Row}
-use Rattle.tables.specs.Faults.{size_fault, length_fault, row_fault, byte_row_fault, fault_at, rest_fault, table_fault}
-use Rattle.tables.specs.Format.{word, stated_rows, stated_flags, stated_codes, left_at, right_at, row_at, rows_in, rows_of, half_bytes, kind_number, body_bytes, table_bytes}
+use Rattle.tables.specs.Faults.{size_fault, row_fault, byte_row_fault, fault_at, table_fault}
+use Rattle.tables.specs.Format.{stated_rows, stated_flags, stated_codes, left_at, right_at, row_at, rows_in, rows_of, half_bytes, kind_number, body_bytes, table_bytes}
 use Rattle.tables.specs.Lawful.{rows_fault}
 use Rattle.tables.specs.declared.form.Form.{Form}
-use Rattle.tables.specs.declared.fault.TableFault.{TableFault}
 use Rattle.tables.specs.declared.fault.TableFault.TheVariants.{Length}
 use Rattle.tables.proofs.Bytes.{known_fault, sized_fault}
 use Rattle.tables.proofs.Sound.{length_rows, four_bytes, rest_long, rows_fine}

@@ -1,5 +1,5 @@
 -- Which fault a table has: the first that applies, in one fixed order.
-use Rattle.std.specs.Prelude.{ℕ, ◌-◌, ◌*◌, Bool, true, false, cond, not, ◌&&◌, ◌||◌, List, [], ◌∷◌, length, get_or, drop, Some, None, Option, ◌==◌, nat_lt, slice_index, slice_index_or}
+use Rattle.std.specs.Prelude.{ℕ, ◌-◌, ◌*◌, cond, not, ◌&&◌, ◌||◌, List, length, get_or, drop, Some, None, Option, ◌==◌, nat_lt, slice_index, slice_index_or}
 use Rattle.refusals.specs.First.{then, first_from}
 use Rattle.rows.specs.Kinds.{kind_of, left_use, right_use, is_in, may_scope, zero_kept, number_kept, order_kept}
 use Rattle.rows.specs.declared.kind.Kind.{Kind}

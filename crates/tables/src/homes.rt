@@ -56,8 +56,8 @@ fn start(count: usize, homes: &mut Vec<Home>)
 
 // The home of each row, in an empty list that has room for them.
 pub(crate) fn find_homes(rows: &[Row], homes: &mut Vec<Home>)
-    requires rows_len_bound { (length rows.now ≤ vec_capacity homes.old) × (Empty homes.old) }
-    requires rows_len_bound_2 { length rows.now ≤ 1024 }
+    requires room { (length rows.now ≤ vec_capacity homes.old) × (Empty homes.old) }
+    requires few { length rows.now ≤ 1024 }
     ensures { homes.new.items ≡ homes_of rows.now }
 {
     start(rows.len(), homes);

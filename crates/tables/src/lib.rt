@@ -1,4 +1,6 @@
 // Rules and plain tables: their types, which hold lawful tables only, and their readers.
+#![tactic(auto)]
+
 mod check;
 mod fault;
 mod form;

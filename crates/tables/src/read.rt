@@ -88,8 +88,8 @@ fn read_row(form: Form, sizes: Sizes, rest: &[u8], i: usize) -> Result<Row, Tabl
 
 // All rows in the bytes after the sizes, put into an empty list that has room for them.
 fn read_rows(form: Form, sizes: Sizes, rest: &[u8], rows: &mut Vec<Row>) -> Result<(), TableFault>
-    requires rows_bound { (sizes.rows ≤ vec_capacity rows.old) × (Empty rows.old) }
-    requires rest_len { length rest.now ≡ 5 * sizes.rows }
+    requires room { (sizes.rows ≤ vec_capacity rows.old) × (Empty rows.old) }
+    requires sized { length rest.now ≡ 5 * sizes.rows }
     ensures { Answers (first_from (fault_at form sizes.rows sizes.flags sizes.codes rest.now) 0 sizes.rows) result (λ _. rows.new.items ≡ rows_in rest.now sizes.rows) }
 {
     for i in 0..sizes.rows {

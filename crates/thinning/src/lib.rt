@@ -1,4 +1,6 @@
 // A session thinned to the states that are in a scope.
+#![tactic(auto)]
+
 mod memory;
 mod thinned;
 

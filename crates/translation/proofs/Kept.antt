@@ -43,34 +43,34 @@ set_shows {w} {v} at Done More ps i p within grows before here split j done =
 module _ {rows : List Row} {Done Opened : ℕ → Type 0} {d : Draft} (kept : Kept rows Done Opened d) where
   fewer : {Done' Opened' : ℕ → Type 0} → ((j : ℕ) → Done' j → Done j) → ((j : ℕ) → Opened' j → Opened j) → Kept rows Done' Opened' d
   fewer less shut = record {
-    places_long = kept.places-long;
-    gates_long = kept.gates-long;
-    bars_long = kept.bars-long;
+    places_long = kept.places_long;
+    gates_long = kept.gates_long;
+    bars_long = kept.bars_long;
     results = λ j done. kept.results j (less j done);
-    gate_shown = λ j opened. kept.gate-shown j (shut j opened);
-    bar_shown = λ j opened. kept.bar-shown j (shut j opened);
+    gate_shown = λ j opened. kept.gate_shown j (shut j opened);
+    bar_shown = λ j opened. kept.bar_shown j (shut j opened);
   }
 
   -- row i gets its place
   one_more : {Done' : ℕ → Type 0} (i : ℕ) (v : List Row) (p : ℕ) → i < length rows → Grown d.written v → Shows v p (wanted rows i) → ((j : ℕ) → Done' j → Done j ⊎ (j ≡ i)) → Kept rows Done' Opened (record { written = v; places = set d.places i p; gates = d.gates; bars = d.bars })
   one_more {Done'} i v p within grows here split = record {
-    places_long = length-set d.places i p ∙ kept.places-long;
-    gates_long = kept.gates-long;
-    bars_long = kept.bars-long;
-    results = set_shows (wanted rows) Done Done' d.places i p (omega (arith, kept.places-long)) grows kept.results here split;
-    gate_shown = λ j opened. grows _ _ (kept.gate-shown j opened);
-    bar_shown = λ j opened. grows _ _ (kept.bar-shown j opened);
+    places_long = length-set d.places i p ∙ kept.places_long;
+    gates_long = kept.gates_long;
+    bars_long = kept.bars_long;
+    results = set_shows (wanted rows) Done Done' d.places i p (omega (arith, kept.places_long)) grows kept.results here split;
+    gate_shown = λ j opened. grows _ _ (kept.gate_shown j opened);
+    bar_shown = λ j opened. grows _ _ (kept.bar_shown j opened);
   }
 
   -- row i gets its gate and bar
   one_gate : {Opened' : ℕ → Type 0} (i : ℕ) (v : List Row) (g b : ℕ) → i < length rows → Grown d.written v → Shows v g (gate_formula rows i) → Shows v b (not (gate_formula rows i)) → ((j : ℕ) → Opened' j → Opened j ⊎ (j ≡ i)) → Kept rows Done Opened' (record { written = v; places = d.places; gates = set d.gates i g; bars = set d.bars i b })
   one_gate {Opened'} i v g b within grows at_g at_b split = record {
-    places_long = kept.places-long;
-    gates_long = length-set d.gates i g ∙ kept.gates-long;
-    bars_long = length-set d.bars i b ∙ kept.bars-long;
+    places_long = kept.places_long;
+    gates_long = length-set d.gates i g ∙ kept.gates_long;
+    bars_long = length-set d.bars i b ∙ kept.bars_long;
     results = λ j done. grows _ _ (kept.results j done);
-    gate_shown = set_shows (gate_formula rows) Opened Opened' d.gates i g (omega (arith, kept.gates-long)) grows kept.gate-shown at_g split;
-    bar_shown = set_shows (λ j. not (gate_formula rows j)) Opened Opened' d.bars i b (omega (arith, kept.bars-long)) grows kept.bar-shown at_b split;
+    gate_shown = set_shows (gate_formula rows) Opened Opened' d.gates i g (omega (arith, kept.gates_long)) grows kept.gate_shown at_g split;
+    bar_shown = set_shows (λ j. not (gate_formula rows j)) Opened Opened' d.bars i b (omega (arith, kept.bars_long)) grows kept.bar_shown at_b split;
   }
 
 -- the rows that are done, by the step and the row that is next
@@ -186,7 +186,7 @@ module _ {rows : List Row} (lawful : Ruled rows) where
           let scope = place_of d r.right in
           let w1 = d.written ++ (two_operands And outer scope ∷ []) in
           let gate : gate_formula rows i ≡ and (gate_formula rows m) (formula_at rows r.right) = gate_is lawful i within ∙ ap (λ h. gate_by h (gate_formula rows) (formula_at rows r.right)) is in
-          let shown : Shows w1 n (gate_formula rows i) = subst (Shows w1 n) (sym gate) (shows_two And n refl (kept.gate-shown m (body_gate i m within is)) (gate_scope i kept within in_row)) in
+          let shown : Shows w1 n (gate_formula rows i) = subst (Shows w1 n) (sym gate) (shows_two And n refl (kept.gate_shown m (body_gate i m within is)) (gate_scope i kept within in_row)) in
           one_gate kept i _ n (length w1) within (λ p f s. grown w1 _ p f (grown d.written _ p f s)) (grown w1 _ n _ shown) (shows_one Not (length w1) refl shown) split
       at_home in_row (Scope m) is = none_here (λ gates. both_ways (in_scope (home rows i)) gates.1 (ap in_scope is))
 
@@ -217,7 +217,7 @@ module _ {rows : List Row} (lawful : Ruled rows) where
           let opened : Gates rows m = (body_gate i m within is).1 in
           let shown : (side : Bool) → half_use side r.kind ≡ Operand → Shows w (place_of d (half side r)) (gated gate (formula_at rows (half side r))) = λ side named. subst (Shows w (place_of d (half side r))) (wanted_same lawful side i named not_in ∙ ap (λ h. wanted_at (gate_formula rows) h (formula_at rows (half side r))) is) (write_operand i kept within side named) in
           subst (Ends (w ++ body_rows r.kind r (length w) (get_or d.gates m 0) (get_or d.bars m 0) a c)) (sym (ap (wanted_at (gate_formula rows) (home rows i)) (rule_formula lawful i within) ∙ ap (λ h. wanted_at (gate_formula rows) h (formula_by r.kind r.left r.right x y)) is))
-          (ends_body r.kind r.left r.right w (length w) (get_or d.gates m 0) (get_or d.bars m 0) a c gate x y refl not_in (kept.gate-shown m opened) (kept.bar-shown m opened) (shown true) (shown false))
+          (ends_body r.kind r.left r.right w (length w) (get_or d.gates m 0) (get_or d.bars m 0) a c gate x y refl not_in (kept.gate_shown m opened) (kept.bar_shown m opened) (shown true) (shown false))
 
       at_home : (h : Home) → home rows i ≡ h → Kept rows (RowsBelow rows (i + 1)) (Gates rows) (write_step h i r d)
       at_home Outside is =

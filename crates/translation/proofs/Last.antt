@@ -149,7 +149,7 @@ module _ {rows : List Row} (lawful : Ruled rows) (t : ℕ) (trunk : Trunk rows t
   unfolding after_rows
   end_kept =
       (rising_keeps (λ i. write_step (home rows i) i) (λ i d. Kept rows (RowsBelow rows i) (Gates rows) d × AtEnd rows t i d) rows (after_gates rows)
-      (λ i d within both. (write_keeps lawful i d within both.0, end_keeps i d within both.0.places-long both.1))
+      (λ i d within both. (write_keeps lawful i d within both.0, end_keeps i d within both.0.places_long both.1))
       (gates_kept lawful, λ j up low. absurd (omega arith))).1
 
 pub last_place : {rows : List Row} → Ruled rows → place_of (after_rows rows) (length rows - 1) ≡ length (after_rows rows).written - 1

@@ -148,7 +148,7 @@ module _ (flags codes : ℕ) where
             let g = get_or d.gates m 0 in
             let c = place_of d r.right in
             let w1 = w ++ (two_operands And g c ∷ []) in
-            fine_push w1 _ (fine_push w _ before (ordered (length w) g c (kept.gate-shown m (body_gate lawful i m within is)).low low))
+            fine_push w1 _ (fine_push w _ before (ordered (length w) g c (kept.gate_shown m (body_gate lawful i m within is)).low low))
             (ordered_one (length w1) (length w) (omega (arith, length_push w (two_operands And g c))))
         at_home low (Scope m) is = before
 
@@ -168,7 +168,7 @@ module _ (flags codes : ℕ) where
         at_home (Body m) is =
             let opened = (body_gate lawful i m within is).1 in
             cond_both (is_in r.kind) (passed_on i r d) (in_body m i r d) (λ e. Fine e.written) (λ in_row. before)
-            (λ not_in. fine_append d.written _ (length d.written) refl before (body_fine r.kind r.left r.right i (length d.written) _ _ _ _ (fine i within) not_in (kept.gate-shown m opened).low (kept.bar-shown m opened).low (low true) (low false)))
+            (λ not_in. fine_append d.written _ (length d.written) refl before (body_fine r.kind r.left r.right i (length d.written) _ _ _ _ (fine i within) not_in (kept.gate_shown m opened).low (kept.bar_shown m opened).low (low true) (low false)))
         at_home (Scope m) is = before
 
     scopes_fine : Fine (after_scopes rows).written

@@ -1,4 +1,6 @@
 // The translation of rules to plain tables, as a definition, and its laws.
+#![tactic(auto)]
+
 ghost use Rattle.std.specs.Prelude.{◌≡◌, ℕ, ◌*◌, ◌≤◌, List, length};
 ghost use Rattle.rows.specs.declared.row.Row.{Row};
 ghost use Rattle.translation.specs.Translation.{body_rows, translated};

@@ -1,4 +1,6 @@
 // Translates rules to plain tables.
+#![tactic(auto)]
+
 mod draft;
 mod gates;
 mod memory;

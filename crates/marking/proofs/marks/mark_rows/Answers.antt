@@ -18,4 +18,4 @@ returns g c =
     let old = c.args.marks.now in
     let now = c.loop-position.marks in
     let filled = at_start L (length rows) meant w old c.start.new.marks c.start.ensures c.loop-position.position now c.loop-position-test.false c.loop-position.invariant in
-    record { value = answer_is L (length rows) meant w (drop 1 w) old now c.last-mark.result c.requires.sound.1.1 filled c.last-mark.ensures; filled = filled }
+    record { value = answer_is L (length rows) meant w (drop 1 w) old now c.last_mark.result c.requires.sound.1.1 filled c.last_mark.ensures; filled = filled }

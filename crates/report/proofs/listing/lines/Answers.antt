@@ -1,4 +1,4 @@
-use Rattle.std.proofs.Common.{◌≡◌, ℕ, ◌+◌, ◌<◌, ◌≤◌, List, ◌++◌, Some, None, sym, ap, ◌∙◌, subst, arith}
+use Rattle.std.proofs.Common.{◌≡◌, ℕ, List, ◌++◌, ap, ◌∙◌, arith}
 use Rattle.std.specs.List.{range_with_len, flat_map}
 use Rattle.packs.specs.Format.{rule_count, label_if}
 use Rattle.packs.specs.Summary.{summary_of}
@@ -12,13 +12,13 @@ loop-label-preserved c =
     let bytes : List ℕ = c.summary.new.self.pack.bytes.now in
     let place = c.loop-label.reader.place in
     let inv = c.loop-label.invariant in
-    let told = c.in-ok-next-line.ensures in
+    let told = c.in_ok-next_line.ensures in
     let same : c.loop-label.reader.pack.bytes.now ≡ bytes = λ d. (inv.0 d).bytes.now in
     let at = label_there bytes place c.in-Some.label (c.in-Some.ensures ∙ ap (λ b. label_if b place) same) in
-    let line = c.as-str.ensures.value ∙ told.value ∙ ap (λ b. line_at b place) same in (
+    let line = c.as_str.ensures.value ∙ told.value ∙ ap (λ b. line_at b place) same in (
       told.pack ∙ inv.0,
       omega (arith, told.place, at.0),
-      c.in-ok-push-str.ensures.bytes ∙ lines_more bytes (summary_text (summary_of bytes 0)) _ _ place _ inv.2 line told.place,
+      c.in_ok-push_str.ensures.bytes ∙ lines_more bytes (summary_text (summary_of bytes 0)) _ _ place _ inv.2 line told.place,
     )
 
 pub returns : goal.returns
@@ -28,8 +28,8 @@ returns c =
     let place = c.loop-label.reader.place in
     let inv = c.loop-label.invariant in
     let same : c.loop-label.reader.pack.bytes.now ≡ bytes = λ d. (inv.0 d).bytes.now in
-    let past = no_label bytes place (c.in-default.ensures ∙ ap (λ b. label_if b place) same) in
+    let past = no_label bytes place (c.in_default.ensures ∙ ap (λ b. label_if b place) same) in
     let done : place ≡ rule_count bytes = omega (arith, past, inv.1) in
     inv.2
     ∙ ap (λ n. summary_text (summary_of bytes 0) ++ flat_map (line_at bytes) (range_with_len 0 n)) done
-    ∙ (λ d. lines_of ((c.in-ok-summary.ensures.pack ∙ c.new-reader.ensures.pack) d).bytes.now)
+    ∙ (λ d. lines_of ((c.in_ok-summary.ensures.pack ∙ c.new-reader.ensures.pack) d).bytes.now)

@@ -1,4 +1,4 @@
-use Rattle.std.proofs.Common.{◌≡◌, ◌+◌, length, Some, None, vec_items, sym, ap, ◌∙◌, subst}
+use Rattle.std.proofs.Common.{length, Some, None, vec_items, sym, ap, ◌∙◌, subst}
 use Rattle.std.proofs.lemmas.Result.{IfOk-weaker}
 use Rattle.packs.specs.Reader.{moved, Loaded}
 use Rattle.packs.proofs.Loads.{loaded_is}
@@ -18,8 +18,8 @@ returns-in-Some c =
     let line = ap (λ l. rule_line l (length (vec_items table.rows)) table.flags table.codes) c.requires.label ∙ lawful_line bytes k c.requires.there table fine loaded.1 in
     let next = moved_is bytes k _ c.requires.there (told.place ∙ sym (loaded_is bytes k None fine)) in
     record {
-      value = IfOk-weaker c.rule-line.result _ _ (λ s e. e ∙ line) c.rule-line.ensures;
-      place = IfOk-weaker c.rule-line.result _ _ (λ s e. next) c.rule-line.ensures;
+      value = IfOk-weaker c.rule_line.result _ _ (λ s e. e ∙ line) c.rule_line.ensures;
+      place = IfOk-weaker c.rule_line.result _ _ (λ s e. next) c.rule_line.ensures;
       pack = told.pack;
     }
 
@@ -34,7 +34,7 @@ returns-in-Err c =
     let stays = told.place ∙ sym (loaded_is bytes k (Some c.in-Err.fault) found) in
     let next = moved_is bytes k _ c.requires.there (c.skip.ensures.place ∙ (λ d. moved (told.pack d).bytes.now (stays d))) in
     record {
-      value = IfOk-weaker c.refused-rule-line.result _ _ (λ s e. e ∙ line) c.refused-rule-line.ensures;
-      place = IfOk-weaker c.refused-rule-line.result _ _ (λ s e. next) c.refused-rule-line.ensures;
+      value = IfOk-weaker c.refused_rule_line.result _ _ (λ s e. e ∙ line) c.refused_rule_line.ensures;
+      place = IfOk-weaker c.refused_rule_line.result _ _ (λ s e. next) c.refused_rule_line.ensures;
       pack = c.skip.ensures.pack ∙ told.pack;
     }

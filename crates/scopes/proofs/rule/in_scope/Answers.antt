@@ -9,11 +9,11 @@ use Rattle.scopes.proofs.Rules.{ruled}
 use Rattle.scopes.proofs.Answering.{no_row, rule_root}
 use Rattle.scopes.proofs.rule.in_scope.Goals as goal
 
-pub returns-in-err-row : goal.returns-in-err-row
-returns-in-err-row c =
-    let k = c.args.in-row in
-    c.from-residual.ensures
-    ∙ no_row (vec_items c.args.rule.now.table.rows) k c.args.state.now (c.in-err-row.ensures ∙ ap (λ (t : Table). item_of (vec_items t.rows) k blank) c.table-2.ensures)
+pub returns-in_err-row : goal.returns-in_err-row
+returns-in_err-row c =
+    let k = c.args.in_row in
+    c.from_residual.ensures
+    ∙ no_row (vec_items c.args.rule.now.table.rows) k c.args.state.now (c.in_err-row.ensures ∙ ap (λ (t : Table). item_of (vec_items t.rows) k blank) c.table-2.ensures)
 
 -- the root of the scope, by the rows that the code holds
 root : (rows held : List Row) (k n : ℕ) (row : Row) → held ≡ rows → Ruled rows → row ≡ get_or rows k blank → is_in row.kind ≡ true → n ≡ row.right → ScopeRoot held n
@@ -26,7 +26,7 @@ pub holds-requires : goal.holds-requires
 holds-requires c =
     let rule = c.args.rule.now in
     let rows = vec_items rule.table.rows in
-    let k = c.args.in-row in
-    let held = c.as-slice-rows.ensures.value ∙ ap (λ (t : Table). vec_items t.rows) c.table.ensures in
-    let there = (item_there rows k blank c.in-ok-row.row (c.in-ok-row.ensures ∙ ap (λ (t : Table). item_of (vec_items t.rows) k blank) c.table-2.ensures)).1 in
-    root rows _ k _ _ held (ruled rule.table.flags rule.table.codes rows rule.lawful rule.checked) there (sym c.is-in.ensures ∙ c.if-not-is-in.false) c.from.ensures
+    let k = c.args.in_row in
+    let held = c.as_slice-rows.ensures.value ∙ ap (λ (t : Table). vec_items t.rows) c.table.ensures in
+    let there = (item_there rows k blank c.in_ok-row.row (c.in_ok-row.ensures ∙ ap (λ (t : Table). item_of (vec_items t.rows) k blank) c.table-2.ensures)).1 in
+    root rows _ k _ _ held (ruled rule.table.flags rule.table.codes rows rule.lawful rule.checked) there (sym c.is_in.ensures ∙ c.if-not-is_in.false) c.from.ensures

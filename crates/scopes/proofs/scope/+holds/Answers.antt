@@ -1,4 +1,4 @@
-use Rattle.std.proofs.Common.{◌≡◌, ℕ, true, false, sym, refl, ◌∙◌}
+use Rattle.std.proofs.Common.{true, false, sym, refl, ◌∙◌}
 use Rattle.rows.specs.Reach.{here}
 use Rattle.scopes.proofs.Evaluated.{top_holds, flag_holds, not_answer, and_answer, or_answer, operand_root, no_other}
 use Rattle.scopes.proofs.scope.+holds.Goals as goal
@@ -22,7 +22,7 @@ pub returns-in-Top : goal.returns-in-Top
 returns-in-Top t c = sym (top_holds c.args.rows.now c.args.number c.requires c.args.state.now c.in-Top.is)
 
 pub returns-in-Flag : goal.returns-in-Flag
-returns-in-Flag t c = c.has-flag.ensures ∙ sym (flag_holds c.args.rows.now c.args.number c.requires c.args.state.now c.in-Flag.is)
+returns-in-Flag t c = c.has_flag.ensures ∙ sym (flag_holds c.args.rows.now c.args.number c.requires c.args.state.now c.in-Flag.is)
 
 pub returns-in-Not : goal.returns-in-Not
 returns-in-Not t c = not_answer c.args.rows.now c.args.number c.requires c.args.state.now _ _ c.from-left.ensures c.from-right.ensures c.in-Not.is c.holds.ensures
@@ -33,6 +33,6 @@ returns-in-And t c = and_answer c.args.rows.now c.args.number c.requires c.args.
 pub returns-in-Or : goal.returns-in-Or
 returns-in-Or t c = or_answer c.args.rows.now c.args.number c.requires c.args.state.now _ _ c.from-left.ensures c.from-right.ensures c.in-Or.is c.holds-in-Or.ensures c.holds-in-Or-2.ensures
 
-pub returns-in-default : goal.returns-in-default
-returns-in-default t c =
-    absurd (no_other _ (c.requires.kinds c.args.number here) c.in-default.not-Top c.in-default.not-Flag c.in-default.not-Not c.in-default.not-And c.in-default.not-Or)
+pub returns-in_default : goal.returns-in_default
+returns-in_default t c =
+    absurd (no_other _ (c.requires.kinds c.args.number here) c.in_default.not-Top c.in_default.not-Flag c.in_default.not-Not c.in_default.not-And c.in_default.not-Or)

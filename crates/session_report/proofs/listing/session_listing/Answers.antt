@@ -13,9 +13,9 @@ pub loop-i-preserved : goal.loop-i-preserved
 loop-i-preserved g c =
     let w = g.S.Session.states c.args.session.now in
     let i = c.loop-i.i in
-    ap (λ text. text ++ numbered state_line (i + 1) (drop (i + 1) w)) c.in-ok-push-str.ensures.bytes
+    ap (λ text. text ++ numbered state_line (i + 1) (drop (i + 1) w)) c.in_ok-push_str.ensures.bytes
     ∙ numbered_more state_line _ _ _ i w no_state (omega (arith, c.len-i-end.ensures))
-    (c.as-str.ensures.value ∙ c.in-ok-state-line.ensures ∙ alike_line i c.state-at-state.result (get_or w i no_state) c.state-at-state.ensures)
+    (c.as_str.ensures.value ∙ c.in_ok-state_line.ensures ∙ alike_line i c.state_at-state.result (get_or w i no_state) c.state_at-state.ensures)
     c.loop-i.invariant
 
 pub returns : goal.returns

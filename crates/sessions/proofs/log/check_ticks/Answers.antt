@@ -6,7 +6,7 @@ pub returns-in-Some : goal.returns-in-Some
 returns-in-Some c = sym c.loop-i.invariant ∙ first_here _ c.loop-i.i (length c.args.ticks.now) c.loop-i-test.true (sym c.in-Some.ensures)
 
 pub loop-i-preserved : goal.loop-i-preserved
-loop-i-preserved c = sym (first_step _ c.loop-i.i (length c.args.ticks.now) c.loop-i-test.true (sym c.in-default.ensures)) ∙ c.loop-i.invariant
+loop-i-preserved c = sym (first_step _ c.loop-i.i (length c.args.ticks.now) c.loop-i-test.true (sym c.in_default.ensures)) ∙ c.loop-i.invariant
 
 pub returns : goal.returns
 returns c = sym c.loop-i.invariant ∙ first_end _ c.loop-i.i (length c.args.ticks.now) c.loop-i-test.false

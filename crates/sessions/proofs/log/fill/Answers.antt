@@ -1,4 +1,4 @@
-use Rattle.std.proofs.Common.{◌≡◌, ℕ, ◌+◌, ◌<◌, ◌≤◌, length, get_or, vec_items, sym, ap, ◌∙◌, subst, arith, below_none, below_more}
+use Rattle.std.proofs.Common.{◌≡◌, ℕ, ◌+◌, ◌<◌, ◌≤◌, length, get_or, vec_items, sym, ap, ◌∙◌, subst, arith, below_more}
 use lib.Bits.{bit_xor}
 use Rattle.std.proofs.lemmas.Nat.{one_shl}
 use Rattle.sessions.specs.Logs.{switches, odd}
@@ -29,7 +29,7 @@ loop-done-preserved c =
     )
 
 -- the ticks that are not done yet are above the position
-later : (c : goal.After-push-reserved) → (k : ℕ) → c.loop-done.done ≤ k → k < length c.args.ticks.now → c.loop-position.position < get_or c.args.ticks.now k 0
+later : (c : goal.After-push_reserved) → (k : ℕ) → c.loop-done.done ≤ k → k < length c.args.ticks.now → c.loop-position.position < get_or c.args.ticks.now k 0
 later c k from within =
     elim c.loop-done-test.branch [
       | then-loop-done-test+else-ticks-done w ↦ omega (arith, w.if-ticks-done.false, c.requires.rising c.loop-done.done k from within)
@@ -51,5 +51,5 @@ loop-position-preserved c =
       c.loop-done.invariant.0,
       (λ k h. omega (arith, c.loop-done.invariant.1 k h)),
       c.loop-done.invariant.2,
-      switched_more ticks flags words (vec_items c.push-reserved.new.self) c.loop-done.word c.push-reserved.ensures.items here c.loop-position.invariant.5,
+      switched_more ticks flags words (vec_items c.push_reserved.new.self) c.loop-done.word c.push_reserved.ensures.items here c.loop-position.invariant.5,
     )

@@ -1,5 +1,5 @@
 use Rattle.std.proofs.Common.{◌≡◌, ℕ, ◌-◌, ◌<◌, ◌≤◌, length, get_or, vec_items, vec_len, vec_capacity}
-use Rattle.sessions.specs.Logs.{Switched, Rising, log_states}
+use Rattle.sessions.specs.Logs.{Switched, log_states}
 use Rattle.sessions.proofs.Logs.{Turned}
 use Rattle.sessions.proofs.log.fill.Given as goal
 

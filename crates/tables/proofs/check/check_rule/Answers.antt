@@ -12,13 +12,13 @@ pass-requires-2 c = (omega arith, (c.requires.1.0, length_homes _ c.requires.1.1
 pub pass-requires-3 : goal.pass-requires-3
 pass-requires-3 c = (omega arith, (c.requires.1.0, length_homes _ c.requires.1.1))
 
-pub returns-in-err-pass : goal.returns-in-err-pass
+pub returns-in_err-pass : goal.returns-in_err-pass
 unfolding rule_fault
-returns-in-err-pass c = search rules
+returns-in_err-pass c = search rules
 
-pub returns-in-err-pass-2 : goal.returns-in-err-pass-2
+pub returns-in_err-pass-2 : goal.returns-in_err-pass-2
 unfolding rule_fault
-returns-in-err-pass-2 c = search rules
+returns-in_err-pass-2 c = search rules
 
 pub returns : goal.returns
 unfolding rule_fault

@@ -1,4 +1,4 @@
-use Rattle.std.proofs.Common.{◌+◌, sym, ap, ◌∙◌, arith, take_all, rules}
+use Rattle.std.proofs.Common.{◌+◌, sym, ap, ◌∙◌, take_all, rules}
 use Rattle.std.proofs.lemmas.List.Sums.{sum_by_more}
 use Rattle.rows.specs.Rows.{uses, uses_by}
 use Rattle.tables.proofs.check.uses.Goals as goal

@@ -1,4 +1,4 @@
-use Rattle.std.proofs.Common.{sym, ◌∙◌, subst, arith}
+use Rattle.std.proofs.Common.{sym, ◌∙◌, subst}
 use Rattle.rows.proofs.Places.{Known, known_none, known_more, known_all}
 use Rattle.tables.proofs.homes.find_homes.Goals as goal
 
@@ -10,7 +10,7 @@ loop-number-init c =
 pub loop-number-preserved : goal.loop-number-preserved
 loop-number-preserved c =
     let rows = c.args.rows.now in
-    let told = c.hand-on.ensures in
+    let told = c.hand_on.ensures in
     let long = sym c.loop-number.homes.ok.0 ∙ c.loop-number.invariant.0 in (
       told.len ∙ c.loop-number.invariant.0,
       subst (Known rows _) (sym told.items) (known_more rows _ c.loop-number.number _ c.loop-number-test.true c.loop-number.auto.number long c.loop-number.invariant.1),

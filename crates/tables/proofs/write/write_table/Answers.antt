@@ -10,7 +10,7 @@ unfolding bytes_of
 returns c =
     let table = c.args.table.now in
     let old = c.args.buffer.now in
-    let rows_is = c.as-slice-rows.ensures.value in
-    let sized = c.put.ensures ∙ ap (λ l. laid 0 (get_or l 0 0 ∷ get_or l 1 0 ∷ table.flags ∷ table.codes ∷ []) old) c.to-be-bytes.ensures in
-    table_laid table.flags table.codes c.as-slice-rows.result.now old _ _ _ (omega (arith, c.requires.room, ap length rows_is)) (omega (arith, c.requires.few, ap length rows_is)) sized c.put-kinds.ensures c.put-arguments.ensures
+    let rows_is = c.as_slice-rows.ensures.value in
+    let sized = c.put.ensures ∙ ap (λ l. laid 0 (get_or l 0 0 ∷ get_or l 1 0 ∷ table.flags ∷ table.codes ∷ []) old) c.to_be_bytes.ensures in
+    table_laid table.flags table.codes c.as_slice-rows.result.now old _ _ _ (omega (arith, c.requires.room, ap length rows_is)) (omega (arith, c.requires.few, ap length rows_is)) sized c.put_kinds.ensures c.put_arguments.ensures
     ∙ ap (λ rows. table_bytes table.flags table.codes rows ++ drop (4 + 5 * length rows) old) rows_is

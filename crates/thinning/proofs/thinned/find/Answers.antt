@@ -1,4 +1,4 @@
-use Rattle.std.proofs.Common.{◌≡◌, ◌+◌, ◌-◌, ◌<◌, ◌≤◌, length, get_or, take, vec_items, vec_len, vec_capacity, filter, sym, ap, ◌∙◌, arith}
+use Rattle.std.proofs.Common.{◌-◌, ◌<◌, length, get_or, vec_items, vec_len, vec_capacity, filter, ap, ◌∙◌, arith}
 use Rattle.std.proofs.lemmas.List.{take_all}
 use Rattle.sessions.specs.States.{no_state}
 use Rattle.tables.specs.declared.form.Form.TheVariants.{Rule}
@@ -6,7 +6,6 @@ use Rattle.tables.proofs.Sound.{fine_sizes}
 use Rattle.meaning.specs.Meaning.{in_scope}
 use Rattle.scopes.specs.Answered.{whole}
 use Rattle.scopes.proofs.Answering.{scope_root, same_scope}
-use Rattle.thinning.specs.Thinned.{states_at}
 use Rattle.thinning.proofs.Picked.{picked, passed}
 use Rattle.thinning.proofs.thinned.find.Goals as goal
 use Rattle.thinning.proofs.thinned.find.Goals.{then-kept, else-kept}
@@ -20,17 +19,17 @@ loop-i-preserved g c =
     let within : i < length w = omega (arith, c.len-i-end.ensures) in
     let some = (fine_sizes Rule scope.table.flags scope.table.codes rows scope.lawful).0 in
     let root = scope_root scope.table.flags scope.table.codes rows scope.lawful scope.kinds (length rows - 1) (omega arith) in
-    let told = c.contains-kept.ensures ∙ same_scope rows (length rows - 1) root c.state-at.result (get_or w i no_state) c.state-at.ensures.flags in
+    let told = c.contains-kept.ensures ∙ same_scope rows (length rows - 1) root c.state_at.result (get_or w i no_state) c.state_at.ensures.flags in
     elim c.if-kept.branch [
       | then-kept u ↦ (
-        omega (arith, ap vec_len u.positions-is, u.push-reserved.ensures.len),
-        omega (arith, ap vec_capacity u.positions-is, u.push-reserved.ensures.capacity),
-        picked w (in_scope (whole rows)) _ (vec_items c.if-kept.positions) i c.loop-i.invariant.2 (ap vec_items u.positions-is ∙ u.push-reserved.ensures.items) within told u.if_kept.true,
+        omega (arith, ap vec_len u.positions-is, u.push_reserved.ensures.len),
+        omega (arith, ap vec_capacity u.positions-is, u.push_reserved.ensures.capacity),
+        picked w (in_scope (whole rows)) _ (vec_items c.if-kept.positions) i c.loop-i.invariant.2 (ap vec_items u.positions-is ∙ u.push_reserved.ensures.items) within told u.if-kept.true,
       )
       | else-kept u ↦ (
         omega (arith, ap vec_len u.positions-is),
         omega (arith, ap vec_capacity u.positions-is),
-        passed w (in_scope (whole rows)) _ (vec_items c.if-kept.positions) i c.loop-i.invariant.2 (ap vec_items u.positions-is) within told u.if_kept.false,
+        passed w (in_scope (whole rows)) _ (vec_items c.if-kept.positions) i c.loop-i.invariant.2 (ap vec_items u.positions-is) within told u.if-kept.false,
       )
     ]
 

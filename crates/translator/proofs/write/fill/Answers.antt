@@ -4,7 +4,7 @@ use Rattle.translator.proofs.write.fill.Goals as goal
 
 pub loop-numbers-preserved : goal.loop-numbers-preserved
 loop-numbers-preserved c =
-    let pushed = c.push-reserved.ensures in (
+    let pushed = c.push_reserved.ensures in (
       pushed.items ∙ ap (λ ns. ns ++ (0 ∷ [])) c.loop-numbers.invariant.0 ∙ replicate_more _ 0 ∙ ap (λ n. replicate n 0) (sym pushed.len),
       omega arith,
       omega arith,

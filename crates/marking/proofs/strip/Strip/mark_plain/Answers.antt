@@ -6,18 +6,18 @@ use Rattle.marking.proofs.Filling.{long_enough, strip_is}
 use Rattle.marking.proofs.Plain.{rows_are, rows_sound, some_rows, few_rows}
 use Rattle.marking.proofs.strip.Strip.mark_plain.Goals as goal
 
-pub check-len-requires : goal.check-len-requires
-check-len-requires g c = few_rows c.args.table.now _ _ c.as-slice-rows.ensures.value c.table.ensures
+pub check_len-requires : goal.check_len-requires
+check_len-requires g c = few_rows c.args.table.now _ _ c.as_slice-rows.ensures.value c.table.ensures
 
-pub mark-rows-requires : goal.mark-rows-requires
-mark-rows-requires g c =
+pub mark_rows-requires : goal.mark_rows-requires
+mark_rows-requires g c =
     let plain = c.args.table.now in
-    let slice_is = c.as-slice-rows.ensures.value in
+    let slice_is = c.as_slice-rows.ensures.value in
     let table_is = c.table.ensures in
     let sound = rows_sound plain _ _ slice_is table_is in
     record {
       sound = (sound.0, (sound.1, some_rows plain _ _ slice_is table_is));
-      room = (few_rows plain _ _ slice_is table_is, long_enough _ _ c.in-ok-check-len.ensures);
+      room = (few_rows plain _ _ slice_is table_is, long_enough _ _ c.in_ok-check_len.ensures);
     }
 
 pub returns : goal.returns
@@ -26,11 +26,11 @@ returns g c =
     let L = g.M.Scale.ops in
     let w = g.S.Session.states c.args.session.now in
     let old = c.args.self.now.marks.now in
-    let now = c.mark-rows.new.marks in
-    let is = rows_are c.args.table.now _ _ c.as-slice-rows.ensures.value c.table.ensures in
-    let fine : strip_fault (length rows) (length old) ≡ None = subst (λ n. strip_fault n (length old) ≡ None) (ap length is) c.in-ok-check-len.ensures in
-    let value = subst (λ r. c.mark-rows.result ≡ row_mark L r (length r - 1) w) is c.mark-rows.ensures.value in
-    let filled = subst (λ r. Filled L (length r) (row_mark L r) w (drop 1 w) (length r) old now) is c.mark-rows.ensures.filled in
+    let now = c.mark_rows.new.marks in
+    let is = rows_are c.args.table.now _ _ c.as_slice-rows.ensures.value c.table.ensures in
+    let fine : strip_fault (length rows) (length old) ≡ None = subst (λ n. strip_fault n (length old) ≡ None) (ap length is) c.in_ok-check_len.ensures in
+    let value = subst (λ r. c.mark_rows.result ≡ row_mark L r (length r - 1) w) is c.mark_rows.ensures.value in
+    let filled = subst (λ r. Filled L (length r) (row_mark L r) w (drop 1 w) (length r) old now) is c.mark_rows.ensures.filled in
     record {
       value = (fine, value);
       strip = strip_is L rows w old now (long_enough (length rows) (length old) fine) filled;

@@ -9,9 +9,9 @@ returns g c =
     let rows = vec_items c.args.rule.now.table.rows in
     let old = c.args.self.now.marks.now in
     let same = c.len.ensures ∙ ap (λ t. length (vec_items t.rows)) c.table.ensures in
-    let fine : strip_fault (length rows) (length old) ≡ None = subst (λ n. strip_fault n (length old) ≡ None) same c.in-ok-check-len.ensures in
+    let fine : strip_fault (length rows) (length old) ≡ None = subst (λ n. strip_fault n (length old) ≡ None) same c.in_ok-check_len.ensures in
     record {
-      value = (fine, c.mark-rule-rows.ensures.value);
-      strip = straight_is g.M.Scale.ops rows (g.S.Session.states c.args.session.now) old c.mark-rule-rows.new.marks (long_enough (length rows) (length old) fine) c.mark-rule-rows.ensures.filled;
+      value = (fine, c.mark_rule_rows.ensures.value);
+      strip = straight_is g.M.Scale.ops rows (g.S.Session.states c.args.session.now) old c.mark_rule_rows.new.marks (long_enough (length rows) (length old) fine) c.mark_rule_rows.ensures.filled;
       name = refl {a = c.args.self.now.marks.ghost_name};
     }

@@ -1,6 +1,5 @@
-use Rattle.std.proofs.Common.{◌≡◌, ◌+◌, ◌<◌, ◌≤◌, cond, sym, ap, ◌∙◌, arith}
+use Rattle.std.proofs.Common.{◌≡◌, ◌+◌, ◌≤◌, cond, ap, ◌∙◌, arith}
 use Rattle.refusals.proofs.Numbers.{as_number}
-use Rattle.packs.specs.Format.{rule_count}
 use Rattle.packs.specs.Summary.{lawful_rows_in, is_refused}
 use Rattle.packs.proofs.Loads.{there}
 use Rattle.packs.proofs.Sums.{moved_is, sum_more, at_most_one}
@@ -13,7 +12,7 @@ loop-table-preserved c =
     let place = c.loop-table.look.place.now in
     let inv = c.loop-table.invariant in
     let at = there bytes c.in-Some.table.now place c.in-Some.ensures in
-    let told = c.in-ok-more.ensures in
+    let told = c.in_ok-more.ensures in
     let next : c.skip.new.self.place.now ≡ place + 1 = moved_is bytes place _ at.0 c.skip.ensures.place in
     let fault : c.from-refused.result ≡ cond (is_refused c.in-Some.table.now) 1 0 = c.from-refused.ensures ∙ as_number _ ∙ ap (λ b. cond b 1 0) told.1 in
     let one : c.from-refused.result ≤ 1 = at_most_one _ _ fault in (

@@ -1,4 +1,4 @@
-use Rattle.std.proofs.Common.{vec_items, sym, ◌∙◌, arith}
+use Rattle.std.proofs.Common.{vec_items, arith}
 use Rattle.std.proofs.lemmas.List.{get_or_past, get_or_default}
 use Rattle.sessions.proofs.Logs.{flags_word}
 use Rattle.sessions.proofs.log.SwitchLogSession.flags.Goals as goal

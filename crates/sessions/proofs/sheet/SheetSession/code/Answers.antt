@@ -15,9 +15,9 @@ returns-then-position-count c =
 pub returns : goal.returns
 returns c =
     let bytes = c.args.self.now.bytes.now in
-    let fits : SFits w8 c.from-be-bytes.result = search rules in
-    to_z-of_z w8 c.from-be-bytes.result fits
-    ∙ code_here bytes c.args.position c.args.number c.from-be-bytes.ensures c.byte-at.ensures
+    let fits : SFits w8 c.from_be_bytes.result = search rules in
+    to_z-of_z w8 c.from_be_bytes.result fits
+    ∙ code_here bytes c.args.position c.args.number c.from_be_bytes.ensures c.byte_at.ensures
     (omega (arith, length_states bytes, c.len-count.ensures, c.from.ensures, c.from-2.ensures, c.from-3.ensures))
     (omega (arith, length_states bytes, c.len-count.ensures))
     (omega arith)

@@ -1,4 +1,4 @@
-use Rattle.std.proofs.Common.{sym, ◌∙◌, arith}
+use Rattle.std.proofs.Common.{sym, arith}
 use Rattle.sessions.proofs.Sheets.{length_states, flags_here, flags_past}
 use Rattle.sessions.proofs.sheet.SheetSession.flags.Goals as goal
 
@@ -10,4 +10,4 @@ returns-then-position-len c =
 pub returns : goal.returns
 returns c =
     let bytes = c.args.self.now.bytes.now in
-    flags_here bytes c.args.position c.long-at.ensures c.from.ensures (omega (arith, length_states bytes, c.len.ensures))
+    flags_here bytes c.args.position c.long_at.ensures c.from.ensures (omega (arith, length_states bytes, c.len.ensures))

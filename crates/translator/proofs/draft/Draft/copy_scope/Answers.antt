@@ -5,7 +5,7 @@ use Rattle.translator.proofs.Room.{scope_room}
 use Rattle.translator.proofs.draft.Draft.copy_scope.Goals as goal
 
 pub copy-requires : goal.copy-requires
-copy-requires c = omega (arith, scope_room c.args.home c.args.number c.args.row (drafted c.args.self.now) (sym c.if-in-scope.ensures))
+copy-requires c = omega (arith, scope_room c.args.home c.args.number c.args.row (drafted c.args.self.now) (sym c.if-in_scope.ensures))
 
 pub settle-requires : goal.settle-requires
 settle-requires c =
@@ -15,5 +15,5 @@ settle-requires c =
     record {
       within = omega (arith, ap (λ x. length x.places) copied);
       some = omega arith;
-      few = omega (arith, scope_room c.args.home c.args.number c.args.row d (sym c.if-in-scope.ensures));
+      few = omega (arith, scope_room c.args.home c.args.number c.args.row d (sym c.if-in_scope.ensures));
     }

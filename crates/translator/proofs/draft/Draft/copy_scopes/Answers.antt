@@ -9,8 +9,8 @@ use Rattle.translator.proofs.draft.Draft.copy_scopes.Goals as goal
 pub bounds-homes-i : goal.bounds-homes-i
 bounds-homes-i c = omega (arith, length_homes c.args.rows.now c.requires.known)
 
-pub copy-scope-requires : goal.copy-scope-requires
-copy-scope-requires c =
+pub copy_scope-requires : goal.copy_scope-requires
+copy_scope-requires c =
     let rows = c.args.rows.now in
     let room = rising_room scope_step scope_grows rows c.args.homes.now c.requires.known (after_scopes rows) c.loop-i.i (drafted c.loop-i.self) c.loop-i-test.true c.loop-i.invariant in
     record { within = omega (arith, c.loop-i.invariant.0.places); room = omega (arith, room, scopes_few rows c.requires.few) }
@@ -21,7 +21,7 @@ loop-i-init c = scopes_start c.args.rows.now c.requires.before
 pub loop-i-preserved : goal.loop-i-preserved
 loop-i-preserved c =
     let rows = c.args.rows.now in
-    rising_more scope_step scope_grows rows c.args.homes.now c.requires.known (after_scopes rows) c.loop-i.i (drafted c.loop-i.self) c.loop-i-test.true c.loop-i.invariant c.copy-scope.ensures
+    rising_more scope_step scope_grows rows c.args.homes.now c.requires.known (after_scopes rows) c.loop-i.i (drafted c.loop-i.self) c.loop-i-test.true c.loop-i.invariant c.copy_scope.ensures
 
 pub returns : goal.returns
 returns c =

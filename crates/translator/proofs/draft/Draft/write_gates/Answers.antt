@@ -9,8 +9,8 @@ use Rattle.translator.proofs.draft.Draft.write_gates.Goals as goal
 pub bounds-homes-i : goal.bounds-homes-i
 bounds-homes-i c = omega (arith, length_homes c.args.rows.now c.requires.known)
 
-pub write-gate-requires : goal.write-gate-requires
-write-gate-requires c =
+pub write_gate-requires : goal.write_gate-requires
+write_gate-requires c =
     let rows = c.args.rows.now in
     let sized = c.loop-i.invariant.0 in
     let room = falling_room gate_step gate_grows rows c.args.homes.now c.requires.known (after_gates rows) c.loop-i.i (drafted c.loop-i.self) c.loop-i-test.true c.loop-i.auto.i c.loop-i.invariant in
@@ -22,7 +22,7 @@ loop-i-init c = gates_start c.args.rows.now c.requires.before
 pub loop-i-preserved : goal.loop-i-preserved
 loop-i-preserved c =
     let rows = c.args.rows.now in
-    falling_more gate_step gate_grows rows c.args.homes.now c.requires.known (after_gates rows) c.loop-i.i (drafted c.loop-i.self) c.loop-i-test.true c.loop-i.auto.i c.loop-i.invariant c.write-gate.ensures
+    falling_more gate_step gate_grows rows c.args.homes.now c.requires.known (after_gates rows) c.loop-i.i (drafted c.loop-i.self) c.loop-i-test.true c.loop-i.auto.i c.loop-i.invariant c.write_gate.ensures
 
 pub returns : goal.returns
 returns c =

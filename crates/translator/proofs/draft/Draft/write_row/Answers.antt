@@ -21,8 +21,8 @@ settle-requires c =
       few = omega (arith, write_room c.args.home c.args.number c.args.row d (sym arm.ensures) arm.is-0);
     }
 
-pub write-in-body-requires : goal.write-in-body-requires
-write-in-body-requires c =
+pub write_in_body-requires : goal.write_in_body-requires
+write_in_body-requires c =
     let arm = c.in-Body-false in
     omega (arith, body_room c.args.home c.args.number c.args.row (drafted c.args.self.now) arm.around (sym arm.ensures) arm.is-0)
 
@@ -31,7 +31,7 @@ settle-requires-in-Body-false c =
     let arm = c.in-Body-false in
     let row = c.args.row in
     let d = drafted c.args.self.now in
-    let added = c.write-in-body.ensures in
+    let added = c.write_in_body.ensures in
     let long = added_length _ d added in
     let count = body_count arm.around row d in
     record {
