@@ -1,1 +1,1 @@
-mod Rests
+mod FromFn

@@ -1,8 +1,12 @@
-// Files that programs read whole.
+// Files that programs read whole, and what they print of them.
 #![tactic(auto)]
 
-ghost use Rattle.std.specs.Prelude.{◌≤◌, IfOk, vec_len};
+ghost use Rattle.std.specs.Prelude.{◌≤◌, length, Ok, IfOk, OnOk, vec_len};
 
+#[cfg(test)]
+mod tests;
+
+use std::alloc::{AllocError, Global};
 use std::fs::File;
 use std::io;
 use std::io::{ErrorKind, Read};
@@ -19,12 +23,22 @@ pub fn read_file(rt: &HostRuntime, path: &str) -> io::Result<Vec<u8>>
         Ok(file) => {
             file.take(LONGEST as u64 + 1).read_to_end(&mut bytes)?;
         }
-        Err(error) => {
-            if error.kind() != ErrorKind::NotFound {
-                return Err(error);
-            }
-        }
+        Err(error) if error.kind() == ErrorKind::NotFound => {}
+        Err(error) => return Err(error),
     }
     bytes.truncate(LONGEST + 1);
     Ok(bytes)
+}
+
+// Prints what a listing says of a file.
+pub fn print_listing<F>(rt: &HostRuntime, path: &str, listing: F) -> anyhow::Result<()>
+where
+    F: FnOnce(Global, &[u8]) -> Result<String, AllocError>,
+    requires { F.IsAlwaysCallable listing }
+    ensures { OnOk result ((heap : _) × (bytes : _) × (text : _) × (length bytes.now ≤ 65537) × F.post listing heap bytes (Ok text)) }
+{
+    let bytes = read_file(rt, path)?;
+    let text = listing(rt.alloc(), bytes.as_slice())?;
+    print!(rt; "{text}")?;
+    Ok(())
 }

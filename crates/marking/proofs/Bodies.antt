@@ -1,12 +1,11 @@
 -- What the lists say of the bodies of a rule's in rows.
-use Rattle.std.proofs.Common.{◌≡◌, ℕ, ◌+◌, ◌<◌, ◌≤◌, Bool, true, false, cond, ◌&&◌, ◌||◌, List, [], ◌∷◌, length, get_or, set, replicate, Some, None, vec_items, unwrap_or, sym, refl, ap, ◌∙◌, subst, ap₂, ⊎_elim, arith}
-use Rattle.std.proofs.lemmas.List.FromFn.{length-map-range_with_len, get_or-map-range_with_len}
-use Rattle.std.proofs.lemmas.List.{length-replicate, get_or-replicate, get_or_past, get_or-set_same, get_or-set_other}
+use Rattle.std.proofs.Common.{◌≡◌, ℕ, zero, suc, ◌+◌, ◌<◌, ◌≤◌, Bool, true, false, cond, ◌&&◌, ◌||◌, List, [], ◌∷◌, length, get_or, set, replicate, Some, None, vec_items, unwrap_or, sym, refl, ap, ◌∙◌, subst, ap₂, ⊎_elim, arith, below_more}
+use Rattle.std.proofs.Math.ListN.{get_or-map}
+use Rattle.std.proofs.Math.Seq.{map-set_same}
+use Rattle.std.proofs.lemmas.List.{length-map, length-replicate, map-set, get_or-replicate, get_or_past, get_or-set_same, get_or-set_other}
 use Rattle.std.proofs.lemmas.Bool.{cases_lt}
-use Rattle.rows.specs.Homes.{home, homes}
+use Rattle.rows.specs.Homes.{home}
 use Rattle.rows.specs.Reach.{InRow}
-use Rattle.rows.specs.declared.home.Home.{Home}
-use Rattle.rows.specs.declared.home.Home.TheVariants.{Outside}
 use Rattle.rows.specs.declared.row.Row.{Row}
 use Rattle.sessions.specs.declared.state.State.{State}
 use Rattle.meaning.specs.Meaning.{in_scope, thinned}
@@ -15,10 +14,13 @@ use Rattle.scopes.specs.Ruled.{Ruled}
 use Rattle.scopes.proofs.Answering.{same_answer}
 use Rattle.scopes.proofs.Rules.{ruled}
 use Rattle.tables.specs.declared.rule.Rule.{Rule}
-use Rattle.tables.specs.declared.table.Table.{Table}
-use Rattle.marking.specs.Bodies.{body_left, at_home, Held, Bodies}
+use Rattle.marking.specs.Bodies.{body_left, at_home, Bodies, heres, laters}
 use Rattle.marking.specs.Marks.{some}
-use Rattle.marking.proofs.Left.{left_none, body_open, body_more, home_is, home_held}
+use Rattle.marking.specs.declared.straight.Left.{Left}
+use Rattle.marking.proofs.Left.{left_none, body_open, body_more, home_is}
+
+abbrev pub nothing_left : Left
+nothing_left = record { here = false; later = false }
 
 -- what is known of the in rows from a number on
 abbrev pub PassingFrom : ℕ → List Row → ℕ → List Bool → Type 0
@@ -60,24 +62,53 @@ pub bodies_more : (rows : List Row) (s : State) (w : List State) (passing seen n
 bodies_more rows s w passing seen new passing_is seen_is both k in_row =
     both k ∙ ap₂ ◌||◌ (seen_is k in_row) (passing_is k in_row) ∙ or_swap (some (body_left rows k w)) (some (body_left rows k (s ∷ []))) ∙ sym (body_more rows k s w)
 
--- the rows and the homes of a rule, as the code reaches them
-module _ (rule : Rule) where
-  pub rule_ruled : Ruled (vec_items rule.table.rows)
-  rule_ruled = ruled rule.table.flags rule.table.codes (vec_items rule.table.rows) rule.lawful rule.checked
+-- a list of what is left, when an item of it changes
+pub heres_set : (bodies : List Left) (i : ℕ) (here later : Bool) → heres (set bodies i (record { here = here; later = later })) ≡ set (heres bodies) i here
+heres_set bodies i here later = map-set (λ (left : Left). left.here) bodies i (record { here = here; later = later })
 
-  pub rule_rows : (table : Table) (rows : List Row) → rows ≡ vec_items table.rows → table ≡ rule.table → rows ≡ vec_items rule.table.rows
-  rule_rows table rows slice_is table_is = slice_is ∙ ap (λ t. vec_items t.rows) table_is
+pub laters_kept : (bodies : List Left) (i : ℕ) (here later : Bool) → later ≡ (get_or bodies i nothing_left).later → laters (set bodies i (record { here = here; later = later })) ≡ laters bodies
+laters_kept bodies i here later is = map-set_same (λ (left : Left). left.later) bodies i (record { here = here; later = later }) nothing_left is
 
-  module _ (held : List Home) (is : held ≡ vec_items rule.homes) where
-    pub homes_long : length held ≡ length (vec_items rule.table.rows)
-    unfolding homes
-    homes_long = let rows = vec_items rule.table.rows in ap length (is ∙ rule.placed) ∙ length-map-range_with_len (home rows) 0 (length rows)
+-- the first i items have what is left here added to what is left later
+pub record Added (i : ℕ) (old now : List Left) : Type 0 where
+  pub same : heres now ≡ heres old
+  pub added : (k : ℕ) → k < i → get_or (laters now) k false ≡ (get_or (laters old) k false || get_or (heres old) k false)
+  pub ahead : (k : ℕ) → i ≤ k → get_or (laters now) k false ≡ get_or (laters old) k false
 
-    pub home_at : (i : ℕ) → i < length (vec_items rule.table.rows) → get_or held i Outside ≡ home (vec_items rule.table.rows) i
-    unfolding homes
-    home_at i within =
-        let rows = vec_items rule.table.rows in
-        ap (λ l. get_or l i Outside) (is ∙ rule.placed) ∙ get_or-map-range_with_len (home rows) 0 (length rows) i i Outside within (omega arith)
+pub added_more : (i : ℕ) (old now : List Left) → i < length now → Added i old now → Added (i + 1) old (set now i (record { here = (get_or now i nothing_left).here; later = (get_or now i nothing_left).later || (get_or now i nothing_left).here }))
+added_more i old now within so_far =
+    let item = get_or now i nothing_left in
+    let laters_now = map-set (λ (left : Left). left.later) now i (record { here = item.here; later = item.later || item.here }) in
+    let long = length-map now (λ (left : Left). left.later) in
+    let at : (k : ℕ) → get_or (laters (set now i (record { here = item.here; later = item.later || item.here }))) k false ≡ get_or (set (laters now) i (item.later || item.here)) k false = λ k. ap (λ l. get_or l k false) laters_now in
+    let was_later : item.later ≡ get_or (laters old) i false = sym (get_or-map (λ (left : Left). left.later) now i nothing_left) ∙ so_far.ahead i (omega arith) in
+    let was_here : item.here ≡ get_or (heres old) i false = sym (get_or-map (λ (left : Left). left.here) now i nothing_left) ∙ ap (λ l. get_or l i false) so_far.same in
+    record {
+      same = map-set_same (λ (left : Left). left.here) now i (record { here = item.here; later = item.later || item.here }) nothing_left refl ∙ so_far.same;
+      added =
+          below_more _ i
+          (λ k h. at k ∙ get_or-set_other (laters now) i k (item.later || item.here) false (omega arith) ∙ so_far.added k h)
+          (at i ∙ get_or-set_same (laters now) i (item.later || item.here) false (omega arith) ∙ ap₂ ◌||◌ was_later was_here);
+      ahead = λ k h. at k ∙ get_or-set_other (laters now) i k (item.later || item.here) false (omega arith) ∙ so_far.ahead k (omega arith);
+    }
 
-    pub rule_held : (i long : ℕ) → i < length (vec_items rule.table.rows) → length (vec_items rule.table.rows) ≤ long → Held (get_or held i Outside) long
-    rule_held i long within room = subst (λ h. Held h long) (sym (home_at i within)) (home_held rule_ruled i long within room)
+pub added_all : (i : ℕ) (old now : List Left) → length now ≡ length old → length now ≤ i → Added i old now → (k : ℕ) → get_or (laters now) k false ≡ (get_or (laters old) k false || get_or (heres old) k false)
+added_all i old now same past so_far k =
+    ⊎_elim
+    (λ low. so_far.added k low)
+    (λ high.
+    get_or_past (laters now) k false (omega (arith, length-map now (λ (left : Left). left.later)))
+    ∙ sym (ap₂ ◌||◌ (get_or_past (laters old) k false (omega (arith, length-map old (λ (left : Left). left.later)))) (get_or_past (heres old) k false (omega (arith, length-map old (λ (left : Left). left.here))))))
+    (cases_lt k i)
+
+-- no body is taken yet
+pub nothing_taken : (rows : List Row) (n : ℕ) → Bodies rows [] (laters (replicate n nothing_left))
+nothing_taken rows n = subst (Bodies rows []) (sym (map_replicate n)) (bodies_none rows n)
+  where
+    map_replicate : (n : ℕ) → laters (replicate n nothing_left) ≡ replicate n false
+    map_replicate zero = refl
+    map_replicate (suc n) = ap (λ l. false ∷ l) (map_replicate n)
+
+-- what is known of a rule's rows
+pub rule_ruled : (rule : Rule) → Ruled (vec_items rule.table.rows)
+rule_ruled rule = ruled rule.table.flags rule.table.codes (vec_items rule.table.rows) rule.lawful rule.checked

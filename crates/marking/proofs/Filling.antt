@@ -1,6 +1,6 @@
 -- How a strip fills with marks.
-use Rattle.std.proofs.Common.{◌≡◌, ℕ, ◌+◌, ◌-◌, ◌*◌, ◌<◌, ◌≤◌, ◌≢◌, List, [], ◌++◌, length, get_or, drop, set, None, sym, refl, ap, ◌∙◌, subst, ⊎_elim, arith, below_more}
-use Rattle.std.proofs.lemmas.List.{length-set, length-map, length-drop, length-append, drop_all, get_or-set_same, get_or-set_other, get_or-map, get_or-drop, get_or_append_left, get_or-append_right, ext_get_or}
+use Rattle.std.proofs.Common.{◌≡◌, ℕ, ◌+◌, ◌-◌, ◌*◌, ◌<◌, ◌≤◌, List, [], ◌++◌, length, get_or, drop, set, None, sym, ap, ◌∙◌, subst, ⊎_elim, arith, below_more}
+use Rattle.std.proofs.lemmas.List.{length-map, length-drop, length-append, drop_all, get_or-set_same, get_or-set_other, get_or-map, get_or-drop, get_or_append_left, get_or-append_right, ext_get_or}
 use Rattle.std.proofs.lemmas.Bool.{cases_lt, cond-false, le-ltb}
 use Rattle.std.proofs.lemmas.Bool.Decides.{nat_tests}
 use Rattle.rows.specs.declared.row.Row.{Row}
@@ -8,41 +8,69 @@ use Rattle.scales.specs.Lattice.{Lattice}
 use Rattle.sessions.specs.declared.state.State.{State}
 use Rattle.meaning.specs.Formulas.{formulas, formula_of, top}
 use Rattle.meaning.specs.Meaning.{mark, row_mark}
-use Rattle.marking.specs.Marks.{Filled}
+use Rattle.marking.specs.Marks.{Filled, MarksOn}
 use Rattle.marking.specs.Strips.{row_marks, strip_fault, after_marking}
 use Rattle.meaning.proofs.Formulas.{length_built}
 
 module _ {M : Type 0} (L : Lattice M) (n : ℕ) (meant : ℕ → List State → M) where
-  -- row i gets its two marks, the one on the later session first
-  pub filled_more : (w later : List State) (i : ℕ) (old now : List M) (here after : M) → i < n → 2 * n ≤ length old → here ≡ meant i w → after ≡ meant i later → Filled L n meant w later i old now → Filled L n meant w later (i + 1) old (set (set now (n + i) after) i here)
-  filled_more w later i old now here after within room here_is after_is filled =
-      let one = set now (n + i) after in
-      let long_one = length-set now (n + i) after in
-      let long_now = filled.long in
-      let other : (k : ℕ) → k ≢ i → k ≢ n + i → get_or (set one i here) k L.top ≡ get_or now k L.top = λ k p q. get_or-set_other one i k here L.top p ∙ get_or-set_other now (n + i) k after L.top q in
-      record {
-        long = length-set one i here ∙ long_one ∙ long_now;
-        first =
-            below_more _ i
-            (λ k h. other k (omega arith) (omega arith) ∙ filled.first k h)
-            (get_or-set_same one i here L.top (omega arith) ∙ here_is);
-        second =
-            below_more _ i
-            (λ k h. other (n + k) (omega arith) (omega arith) ∙ filled.second k h)
-            (get_or-set_other one i (n + i) here L.top (omega arith) ∙ get_or-set_same now (n + i) after L.top (omega arith) ∙ after_is);
-        ahead = λ k low high. other k (omega arith) (omega arith) ∙ filled.ahead k (omega arith) high;
-        rest = λ k low. other k (omega arith) (omega arith) ∙ filled.rest k low;
-      }
+  -- one more row has its mark
+  pub marks_more : (w : List State) (i : ℕ) (marks : List M) (here : M) → i < length marks → here ≡ meant i w → MarksOn L meant w i marks → MarksOn L meant w (i + 1) (set marks i here)
+  marks_more w i marks here within is on =
+      below_more _ i (λ k h. get_or-set_other marks i k here L.top (omega arith) ∙ on k h) (get_or-set_same marks i here L.top within ∙ is)
 
-  -- one strip after the other
-  pub filled_then : (w later v next : List State) (old mid now : List M) → Filled L n meant w later n old mid → Filled L n meant v next n mid now → Filled L n meant v next n old now
-  filled_then w later v next old mid now before after = record {
-    long = after.long ∙ before.long;
-    first = after.first;
-    second = after.second;
-    ahead = λ k low high. absurd (omega arith);
-    rest = λ k low. after.rest k low ∙ before.rest k low;
-  }
+  -- before the last state is marked, where all marks are those on the empty session
+  pub at_end : (states : List State) (marks after : List M) → MarksOn L meant [] n marks → after ≡ marks → (count : ℕ) → count ≡ length states → MarksOn L meant (drop count states) n marks × MarksOn L meant (drop (count + 1) states) n after
+  at_end states marks after started same count is =
+      let none : drop count states ≡ [] = drop_all count states (omega arith) in
+      let past : drop (count + 1) states ≡ [] = drop_all (count + 1) states (omega arith) in (
+        λ k h. started k h ∙ ap (meant k) (sym none),
+        λ k h. ap (λ l. get_or l k L.top) same ∙ started k h ∙ ap (meant k) (sym past),
+      )
+
+  -- at a position that is not the first, the marks are those after the position before it
+  pub at_turn : (states : List State) (position : ℕ) → 0 < position → (marks : List M) → MarksOn L meant (drop position states) n marks → MarksOn L meant (drop (position - 1 + 1) states) n marks
+  at_turn states position later marks here =
+      let back : position ≡ position - 1 + 1 = omega arith in
+      subst (λ p. MarksOn L meant (drop p states) n marks) back here
+
+  -- after the first state is marked, where the strip was cut in two and now has the marks, the stored ones and what it had further on
+  module _ (states : List State) (position : ℕ) (first : position ≤ 0) (marks after : List M) (here : MarksOn L meant (drop position states) n marks) (later : MarksOn L meant (drop (position + 1) states) n after) where
+    zero_is : position ≡ 0
+    zero_is = omega arith
+
+    pub at_start : (old front rest : List M) → old ≡ front ++ rest → length front ≡ n → length marks ≡ n → length after ≡ n → 2 * n ≤ length old → Filled L n meant states (drop 1 states) n old (marks ++ (after ++ drop n rest))
+    at_start old front rest cut front_long marks_long after_long room =
+        let tail = after ++ drop n rest in
+        let old_long = ap length cut ∙ length-append front rest in
+        let tail_long = length-append after (drop n rest) in
+        let rest_long = length-drop n rest in
+        record {
+          long = length-append marks tail ∙ omega arith;
+          first = λ k h. get_or_append_left marks tail L.top k (omega arith) ∙ here k h ∙ ap (λ p. meant k (drop p states)) zero_is;
+          second = λ k h.
+              let same : n + k - n ≡ k = omega arith in
+              get_or-append_right marks tail n (n + k) L.top marks_long (omega arith)
+              ∙ ap (λ m. get_or tail m L.top) same
+              ∙ get_or_append_left after (drop n rest) L.top k (omega arith)
+              ∙ later k h
+              ∙ ap (λ p. meant k (drop (p + 1) states)) zero_is;
+          ahead = λ k low high. absurd (omega arith);
+          rest = λ k low.
+              let same : n + (k - n - n) ≡ k - n = omega arith in
+              get_or-append_right marks tail n k L.top marks_long (omega arith)
+              ∙ get_or-append_right after (drop n rest) n (k - n) L.top after_long (omega arith)
+              ∙ get_or-drop n rest (k - n - n) L.top
+              ∙ ap (λ m. get_or rest m L.top) same
+              ∙ sym (ap (λ l. get_or l k L.top) cut ∙ get_or-append_right front rest n k L.top front_long (omega arith));
+        }
+
+    -- the last row's mark
+    pub answer_is : (answer : M) → 0 < n → length marks ≡ n → answer ≡ get_or marks (length marks - 1) L.top → answer ≡ meant (n - 1) states
+    answer_is answer some_rows long is =
+        is
+        ∙ ap (λ m. get_or marks (m - 1) L.top) long
+        ∙ here (n - 1) (omega arith)
+        ∙ ap (λ p. meant (n - 1) (drop p states)) zero_is
 
   -- what a strip holds that has all marks, as lists of them
   pub filled_all : (w later : List State) (old now front second : List M) → 2 * n ≤ length old → length front ≡ n → length second ≡ n → ((k : ℕ) → k < n → get_or front k L.top ≡ meant k w) → ((k : ℕ) → k < n → get_or second k L.top ≡ meant k later) → Filled L n meant w later n old now → now ≡ front ++ (second ++ drop (2 * n) old)
@@ -67,28 +95,24 @@ module _ {M : Type 0} (L : Lattice M) (n : ℕ) (meant : ℕ → List State → 
       (cases_lt k (2 * n)))
       (cases_lt k n))
 
-  -- the last row's mark
-  pub answer_is : (w later : List State) (old now : List M) (answer : M) → 0 < n → Filled L n meant w later n old now → answer ≡ get_or now (n - 1) L.top → answer ≡ meant (n - 1) w
-  answer_is w later old now answer has_rows filled is = is ∙ filled.first (n - 1) (omega arith)
+-- one more row, of which the mark is stored or stays, while the further rows' marks are as they were
+module _ {M : Type 0} (L : Lattice M) (meant : ℕ → List State → M) (w : List State) (i : ℕ) where
+  abbrev pub Stepped : ℕ → List M → List M → Type 0
+  Stepped n old now = record { here : MarksOn L meant w n now; ahead : (k : ℕ) → n ≤ k → get_or now k L.top ≡ get_or old k L.top }
 
-  -- before the last state is marked, where the strip has the marks on the empty session
-  pub at_end : (states : List State) (old mid : List M) → Filled L n meant [] [] n old mid → (count : ℕ) → count ≡ length states → Filled L n meant (drop count states) (drop (count + 1) states) n mid mid
-  at_end states old mid started count is =
-      let none : drop count states ≡ [] = drop_all count states (omega arith) in
-      let past : drop (count + 1) states ≡ [] = drop_all (count + 1) states (omega arith) in
+  pub step_done : (number : ℕ) (old now : List M) (mark : M) {n : ℕ} → number ≡ i → i < length now → n ≡ i + 1 → mark ≡ meant i w → MarksOn L meant w i now → ((k : ℕ) → i ≤ k → get_or now k L.top ≡ get_or old k L.top) → Stepped n old (set now number mark)
+  step_done number old now mark number_is within next is here ahead =
+      let more = marks_more L i meant w i now mark within is here in
+      let at : set now i mark ≡ set now number mark = ap (λ m. set now m mark) (sym number_is) in
       record {
-        long = refl;
-        first = λ k h. started.first k h ∙ ap (meant k) (sym none);
-        second = λ k h. started.second k h ∙ ap (meant k) (sym past);
-        ahead = λ k low high. refl;
-        rest = λ k low. refl;
+        here = λ k h. ap (λ l. get_or l k L.top) (sym at) ∙ more k (omega arith);
+        ahead = λ k h. ap (λ l. get_or l k L.top) (sym at) ∙ get_or-set_other now i k mark L.top (omega arith) ∙ ahead k (omega arith);
       }
 
-  -- after the first state is marked
-  pub at_start : (states : List State) (old mid : List M) → Filled L n meant [] [] n old mid → (position : ℕ) (now : List M) → position ≤ 0 → Filled L n meant (drop position states) (drop (position + 1) states) n mid now → Filled L n meant states (drop 1 states) n old now
-  at_start states old mid started position now low filled =
-      let zero_is : position ≡ 0 = omega arith in
-      filled_then [] [] states (drop 1 states) old mid now started (subst (λ p. Filled L n meant (drop p states) (drop (p + 1) states) n mid now) zero_is filled)
+  pub step_left : (old now : List M) {n : ℕ} → n ≡ i + 1 → get_or now i L.top ≡ meant i w → MarksOn L meant w i now → ((k : ℕ) → i ≤ k → get_or now k L.top ≡ get_or old k L.top) → Stepped n old now
+  step_left old now next is here ahead =
+      let more = below_more _ i here is in
+      record { here = λ k h. more k (omega arith); ahead = λ k h. ahead k (omega arith) }
 
 -- a strip that is not refused is long enough
 pub long_enough : (rows marks : ℕ) → strip_fault rows marks ≡ None → 2 * rows ≤ marks

@@ -5,3 +5,4 @@ pub mod Plain
 pub mod Rules
 pub mod Single
 pub mod Turns
+pub mod Walks

@@ -1,5 +1,5 @@
 -- The rows of a lawful plain table are sound, and none is an in row.
-use Rattle.std.proofs.Common.{◌≡◌, ℕ, ◌<◌, ◌≤◌, Bool, true, false, cond, not, ◌&&◌, List, length, get_or, Some, None, vec_items, Option, sym, refl, ap, ◌∙◌, subst, arith}
+use Rattle.std.proofs.Common.{◌≡◌, ℕ, ◌<◌, Bool, true, false, cond, not, ◌&&◌, List, length, get_or, Some, None, vec_items, Option, sym, refl, ap, ◌∙◌, subst, arith}
 use Rattle.std.proofs.lemmas.Bool.{ltb-true, and_parts, not-true}
 use Rattle.rows.specs.Kinds.{left_use, right_use, is_in, zero_kept, number_kept, order_kept}
 use Rattle.rows.specs.Rows.{blank}
@@ -64,6 +64,3 @@ module _ (plain : PlainTable) (table : Table) (rows : List Row) (slice_is : rows
 
   pub some_rows : 0 < length rows
   some_rows = subst (λ r. 0 < length r) (sym rows_are) (fine_sizes Plain plain.table.flags plain.table.codes (vec_items plain.table.rows) plain.lawful).0
-
-  pub few_rows : length rows ≤ 5120
-  few_rows = subst (λ r. length r ≤ 5120) (sym rows_are) plain.few

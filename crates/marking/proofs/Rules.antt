@@ -1,5 +1,5 @@
 -- The marks of a rule's rows, each on the states that are left for the row.
-use Rattle.std.proofs.Common.{◌≡◌, ℕ, ◌+◌, ◌-◌, ◌*◌, ◌<◌, ◌≤◌, Bool, true, false, ltb, List, [], ◌∷◌, length, get_or, drop, set, sym, refl, ap, ◌∙◌, subst, ⊎_elim, arith}
+use Rattle.std.proofs.Common.{◌≡◌, ℕ, ◌+◌, ◌-◌, ◌*◌, ◌<◌, ◌≤◌, Bool, true, false, ltb, List, [], ◌∷◌, length, get_or, drop, sym, refl, ap, ◌∙◌, subst, ⊎_elim, arith}
 use Rattle.std.proofs.lemmas.List.FromFn.{length-map-range_with_len, get_or-map-range_with_len}
 use Rattle.std.proofs.lemmas.List.{drop_more}
 use Rattle.std.proofs.lemmas.Bool.{cases_Bool, cond-false, le-ltb}
@@ -11,7 +11,8 @@ use Rattle.rows.specs.declared.kind.Kind.{Kind}
 use Rattle.rows.specs.declared.kind.Kind.TheVariants.{In}
 use Rattle.rows.specs.declared.row.Row.{Row}
 use Rattle.rows.proofs.Halves.{half, half_use, in_use}
-use Rattle.rows.proofs.Operands.{given_same, given_new, last_outside}
+use Rattle.rows.proofs.Operands.{last_outside}
+use Rattle.rows.proofs.Parents.{given_same, given_new}
 use Rattle.scales.specs.Lattice.{Lattice, Laws}
 use Rattle.sessions.specs.States.{no_state, Alike}
 use Rattle.sessions.specs.declared.state.State.{State}
@@ -20,12 +21,12 @@ use Rattle.meaning.specs.Meaning.{mark, thinned, row_mark}
 use Rattle.scopes.specs.Ruled.{Ruled}
 use Rattle.scopes.proofs.Rules.{operand_below, operand_stands, rule_formula}
 use Rattle.marking.specs.Bodies.{at_home, Bodies}
-use Rattle.marking.specs.Marks.{Sound, Filled, some, state_by}
+use Rattle.marking.specs.Marks.{Sound, Filled, MarksOn, some, state_by}
 use Rattle.marking.specs.Straight.{left_in, left_for, straight_mark, straight_marks, after_straight}
 use Rattle.marking.proofs.Filling.{filled_all}
 use Rattle.marking.proofs.Left.{left_none, left_open, left_shut, left_by, home_is}
 use Rattle.marking.proofs.Single.{fits_by, state_row, state_same}
-use Rattle.marking.proofs.Turns.{later_is, step_taken, step_kept}
+use Rattle.marking.proofs.Turns.{later_is, mark_is}
 
 kind_in : (kind : Kind) → is_in kind ≡ true → kind ≡ In
 kind_in kind in_row = grind arith
@@ -90,30 +91,30 @@ module _ {rows : List Row} (ruled : Ruled rows) where
         ∙ state_row L rows i (rule_formula ruled i within) laws s (left_for rows i w) no_in
         ∙ state_same L row.kind row.left s s (some (left_for rows i w)) _ _ _ _ _ _ (straight_mark L rows i w) (alike_same s) (same true) (same false) (λ named. ap (row_mark L rows row.left) (sym (operand_left true i w within named no_in)))
 
-    -- One turn of the loop over the rows, at a position of the session: row i's mark is saved in the second half.
-    module _ (states : List State) (position : ℕ) (inside : position < length states) (old now : List M) (room : 2 * length rows ≤ length old) (saved : M) (old_is : (k : ℕ) → k < length rows → get_or old k L.top ≡ straight_mark L rows k (drop (position + 1) states)) (filled : Filled L (length rows) (straight_mark L rows) (drop position states) (drop (position + 1) states) i old now) (saved_at : saved ≡ get_or now i saved) (passing : List Bool) (passing_is : Bodies rows (get_or states position no_state ∷ []) passing) where
+    -- One turn of the loop over the rows, at a position of the session.
+    module _ (states : List State) (position : ℕ) (inside : position < length states) (passing : List Bool) (passing_is : Bodies rows (get_or states position no_state ∷ []) passing) where
       session_is : drop position states ≡ get_or states position no_state ∷ drop (position + 1) states
       session_is = drop_more states position no_state inside
 
       -- The state is left for the row, and its mark is worked out.
-      pub rule_taken : Laws L → (count : ℕ) (state : State) (later : Bool) (here : M) (seen : List Bool) → at_home (home rows i) passing true ≡ true → count ≡ length states → Alike state (get_or states position no_state) → Bodies rows (drop (position + 1) states) seen → later ≡ at_home (home rows i) seen (ltb position (count - 1)) → here ≡ state_by L (get_or rows i blank).kind (get_or rows i blank).left state later (get_or (set now (length rows + i) saved) (get_or rows i blank).left L.top) (get_or (set now (length rows + i) saved) (get_or rows i blank).right L.top) (get_or (set now (length rows + i) saved) (length rows + (get_or rows i blank).left) L.top) (get_or (set now (length rows + i) saved) (length rows + i) L.top) → Filled L (length rows) (straight_mark L rows) (drop position states) (drop (position + 1) states) (i + 1) old (set (set now (length rows + i) saved) i here)
-      rule_taken laws count state later here seen passes count_is alike seen_is later_at is =
+      pub rule_taken : Laws L → (marks after : List M) (count : ℕ) (state : State) (later : Bool) (here : M) (seen : List Bool) → MarksOn L (straight_mark L rows) (drop position states) i marks → MarksOn L (straight_mark L rows) (drop (position + 1) states) (length rows) after → at_home (home rows i) passing true ≡ true → count ≡ length states → Alike state (get_or states position no_state) → Bodies rows (drop (position + 1) states) seen → later ≡ at_home (home rows i) seen (ltb position (count - 1)) → here ≡ state_by L (get_or rows i blank).kind (get_or rows i blank).left state later (get_or marks (get_or rows i blank).left L.top) (get_or marks (get_or rows i blank).right L.top) (get_or after (get_or rows i blank).left L.top) (get_or after i L.top) → here ≡ straight_mark L rows i (drop position states)
+      rule_taken laws marks after count state later here seen on stored passes count_is alike seen_is later_at is =
           let row = get_or rows i blank in
           let first = get_or states position no_state in
-          let after = drop (position + 1) states in
+          let rest = drop (position + 1) states in
           let left = sym (home_is ruled i (first ∷ []) passing true within (λ k above. passing_is k) refl) ∙ passes in
-          let steps : Steps first after = ⊎_elim (in_steps first after) (other_steps laws first after left) (cases_Bool (is_in row.kind)) in
-          let meant_is = subst (λ v. straight_mark L rows i v ≡ state_by L row.kind row.left first (some (left_for rows i after)) (straight_mark L rows row.left v) (straight_mark L rows row.right v) (straight_mark L rows row.left after) (straight_mark L rows i after)) (sym session_is) steps in
-          let Later_same = later_at ∙ home_is ruled i after seen (ltb position (count - 1)) within (λ k above. seen_is k) (later_is position count states count_is) in
-          step_taken L (length rows) (straight_mark L rows) i within (drop position states) after old now room saved old_is filled saved_at row.kind row.left row.right state first later (some (left_for rows i after)) here (rule_sound i within) alike Later_same meant_is is
+          let steps : Steps first rest = ⊎_elim (in_steps first rest) (other_steps laws first rest left) (cases_Bool (is_in row.kind)) in
+          let meant_is = subst (λ v. straight_mark L rows i v ≡ state_by L row.kind row.left first (some (left_for rows i rest)) (straight_mark L rows row.left v) (straight_mark L rows row.right v) (straight_mark L rows row.left rest) (straight_mark L rows i rest)) (sym session_is) steps in
+          let Later_same = later_at ∙ home_is ruled i rest seen (ltb position (count - 1)) within (λ k above. seen_is k) (later_is position count states count_is) in
+          mark_is L (straight_mark L rows) (length rows) i within (drop position states) rest marks after on stored row.kind row.left row.right state first later (some (left_for rows i rest)) here (rule_sound i within) alike Later_same meant_is is
 
       -- The state is not left for the row, and its mark stays.
-      pub rule_kept : at_home (home rows i) passing true ≡ false → Filled L (length rows) (straight_mark L rows) (drop position states) (drop (position + 1) states) (i + 1) old (set now (length rows + i) saved)
+      pub rule_kept : at_home (home rows i) passing true ≡ false → straight_mark L rows i (drop (position + 1) states) ≡ straight_mark L rows i (drop position states)
       rule_kept shut =
           let first = get_or states position no_state in
-          let after = drop (position + 1) states in
+          let rest = drop (position + 1) states in
           let gone = sym (home_is ruled i (first ∷ []) passing true within (λ k above. passing_is k) refl) ∙ shut in
-          step_kept L (length rows) (straight_mark L rows) i within (drop position states) after old now room saved old_is filled saved_at (ap (row_mark L rows i) (ap (left_for rows i) session_is ∙ left_shut rows i first after gone))
+          sym (ap (row_mark L rows i) (ap (left_for rows i) session_is ∙ left_shut rows i first rest gone))
 
   -- the last row is left the whole session
   pub last_whole : (w : List State) → left_for rows (length rows - 1) w ≡ w
@@ -124,16 +125,8 @@ module _ {rows : List Row} (ruled : Ruled rows) where
 
 module _ {M : Type 0} (L : Lattice M) (rows : List Row) where
   -- on the empty session the marks are those of a plain table
-  pub straight_start : (i : ℕ) (old now : List M) → Filled L (length rows) (row_mark L rows) [] [] i old now → Filled L (length rows) (straight_mark L rows) [] [] i old now
-  straight_start i old now filled =
-      let same : (k : ℕ) → row_mark L rows k [] ≡ straight_mark L rows k [] = λ k. ap (row_mark L rows k) (sym (left_none rows k)) in
-      record {
-        long = filled.long;
-        first = λ k h. filled.first k h ∙ same k;
-        second = λ k h. filled.second k h ∙ same k;
-        ahead = filled.ahead;
-        rest = filled.rest;
-      }
+  pub straight_start : (i : ℕ) (marks : List M) → MarksOn L (row_mark L rows) [] i marks → MarksOn L (straight_mark L rows) [] i marks
+  straight_start i marks on = λ k h. on k h ∙ ap (row_mark L rows k) (sym (left_none rows k))
 
   pub straight_is : (w : List State) (old now : List M) → 2 * length rows ≤ length old → Filled L (length rows) (straight_mark L rows) w (drop 1 w) (length rows) old now → now ≡ after_straight L rows w old
   unfolding straight_marks

@@ -1,5 +1,5 @@
 -- For which bodies of a rule a state is left, while a session is marked straight from it.
-use Rattle.std.specs.Prelude.{◌≡◌, ℕ, ◌<◌, Bool, false, List, [], ◌∷◌, slice_index_or}
+use Rattle.std.specs.Prelude.{◌≡◌, ℕ, ◌<◌, Bool, false, List, [], ◌∷◌, map, slice_index_or}
 use Rattle.rows.specs.Reach.{InRow}
 use Rattle.rows.specs.declared.home.Home.{Home}
 use Rattle.rows.specs.declared.home.Home.TheVariants.{Outside, Body, Scope}
@@ -7,6 +7,7 @@ use Rattle.rows.specs.declared.row.Row.{Row}
 use Rattle.sessions.specs.declared.state.State.{State}
 use Rattle.marking.specs.Marks.{some}
 use Rattle.marking.specs.Straight.{left_in, left_for}
+use Rattle.marking.specs.declared.straight.Left.{Left}
 
 -- the states that are left for the body of in row k
 abbrev pub body_left : List Row → ℕ → List State → List State
@@ -31,3 +32,10 @@ Bodies rows w bodies = (k : ℕ) → InRow rows k → slice_index_or bodies k fa
 -- it says this of any one state with these flags
 abbrev pub Passing : List Row → ℕ → List Bool → Type 0
 Passing rows flags bodies = (state : State) → flags ≡ state.flags → Bodies rows (state ∷ []) bodies
+
+-- what a list says of the state at hand, and of later ones
+abbrev pub heres : List Left → List Bool
+heres lefts = map (λ (left : Left). left.here) lefts
+
+abbrev pub laters : List Left → List Bool
+laters lefts = map (λ (left : Left). left.later) lefts

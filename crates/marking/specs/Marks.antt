@@ -66,6 +66,10 @@ module _ {M : Type 0} (L : Lattice M) where
   state_by Eventually left state later a b after own = L.join a own
   state_by In left state later a b after own = a
 
+  -- these are the marks of the first i rows on w, where meant k w is what row k's mark on w is
+  abbrev pub MarksOn : (meant : ℕ → List State → M) → List State → ℕ → List M → Type 0
+  MarksOn meant w i marks = (k : ℕ) → k < i → slice_index_or marks k L.top ≡ meant k w
+
   -- The strip now, old before, has the marks of the first i of so many rows, where meant k w is what row k's mark on w is: on w
   -- at the place of each row, on later in the second half. The other rows' marks and those past both halves are as they were.
   pub record Filled (count : ℕ) (meant : ℕ → List State → M) (w later : List State) (i : ℕ) (old now : List M) : Type 0 where

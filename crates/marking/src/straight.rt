@@ -3,8 +3,8 @@
 ghost use Rattle.std.specs.Prelude.{◌≡◌, ℕ, ◌+◌, ◌-◌, ◌*◌, ◌<◌, ◌≤◌, false, ◌||◌, [], ◌∷◌, length, drop, slice_index_or};
 ghost use Rattle.sessions.specs.States.{no_state};
 ghost use Rattle.meaning.specs.Meaning.{row_mark};
-ghost use Rattle.marking.specs.Bodies.{at_home, Held, Bodies, Passing};
-ghost use Rattle.marking.specs.Marks.{Filled};
+ghost use Rattle.marking.specs.Bodies.{at_home, Held, Bodies, Passing, heres, laters};
+ghost use Rattle.marking.specs.Marks.{Filled, MarksOn};
 ghost use Rattle.marking.specs.Straight.{straight_mark};
 
 use crate::marks::{last_mark, start, state_mark};
@@ -14,10 +14,18 @@ use scopes::in_scope;
 use sessions::{Session, State, state_at};
 use tables::Rule;
 
-// What is known of a row that stands here: what `bodies` says of the in row in whose body it is, `elsewhere` if it is in none.
-fn at_home(home: Home, bodies: &[bool], elsewhere: bool) -> bool
+// What is left of a session: whether the state at hand is, and whether a later one is.
+#[derive(Clone, Copy, Debug, Default, PartialEq, Eq, Hash)]
+struct Left {
+    here: bool,
+    later: bool,
+}
+
+// What is left for a row that stands here: what `bodies` says of the in row in whose body it is, `elsewhere` if it is in none.
+fn left_at(home: Home, bodies: &[Left], elsewhere: Left) -> Left
     requires { Held home (length bodies.now) }
-    ensures { result ≡ at_home home bodies.now elsewhere }
+    ensures here { result.here ≡ at_home home (heres bodies.now) elsewhere.here }
+    ensures later { result.later ≡ at_home home (laters bodies.now) elsewhere.later }
 {
     match home {
         Home::Body(in_row) => bodies[usize::from(in_row)],
@@ -26,73 +34,82 @@ fn at_home(home: Home, bodies: &[bool], elsewhere: bool) -> bool
 }
 
 // Stores for each in row whether this state is left for its body: it is in the scope of that row and of all in rows above.
-fn find_passing(rule: &Rule, state: &State, passing: &mut [bool])
-    requires { length rule.now.table.rows.items ≤ length passing.old }
-    ensures { Passing rule.now.table.rows.items state.now.flags passing.new }
+fn find_here(rule: &Rule, state: &State, bodies: &mut [Left])
+    requires { length rule.now.table.rows.items ≤ length bodies.old }
+    ensures here { Passing rule.now.table.rows.items state.now.flags (heres bodies.new) }
+    ensures later { laters bodies.new ≡ laters bodies.old }
 {
-    let homes = rule.homes.as_slice();
-    for number in (0..homes.len()).rev() {
-        let above = at_home(homes[number], passing, true);
-        passing[number] = above && in_scope(rule, number, state).unwrap_or(false);
+    let whole = Left {
+        here: true,
+        later: true,
+    };
+    for (number, home) in rule.homes.iter().enumerate().rev() {
+        let above = left_at(*home, bodies, whole);
+        let here = above.here && in_scope(rule, number, state).unwrap_or(false);
+        bodies[number].here = here;
     }
 }
 
-// Adds the bodies for which a state is left to those for which a later one is.
-fn add_seen(passing: &[bool], seen: &mut [bool])
-    requires { length passing.now ≡ length seen.old }
-    ensures { (k : ℕ) → slice_index_or seen.new k false ≡ (slice_index_or seen.old k false || slice_index_or passing.now k false) }
+// Adds the bodies for which the state at hand is left to those for which a later one is.
+fn add_later(bodies: &mut [Left])
+    ensures { (k : ℕ) → slice_index_or (laters bodies.new) k false ≡ (slice_index_or (laters bodies.old) k false || slice_index_or (heres bodies.old) k false) }
 {
-    for number in 0..seen.len() {
-        seen[number] |= passing[number];
+    for left in bodies.iter_mut() {
+        left.later |= left.here;
     }
 }
 
-// From the marks on the session after a position to those on the session from it. `seen` says of each in row whether a later
-// state is left for its body, and `passing` then says whether this one is.
+// From the marks on the session after a position to those on the session from it. The former are stored too. `bodies` says of
+// each in row whether a later state is left for its body, and then also whether this one is. Not one function with the step of
+// `mark_rows`: what holds before and after it is another fact, and the marks are two slices for the reason told there.
 fn step<M: Scale, S: Session>(
     rule: &Rule,
     session: &S,
     position: u16,
-    passing: &mut [bool],
-    seen: &[bool],
+    bodies: &mut [Left],
     marks: &mut [M],
+    after: &mut [M],
 )
-    requires room { (2 * length rule.now.table.rows.items ≤ length marks.old) × ((length rule.now.table.rows.items ≤ length passing.old) × (length rule.now.table.rows.items ≤ length seen.now)) }
+    requires even { (length marks.old ≡ length rule.now.table.rows.items) × (length after.old ≡ length rule.now.table.rows.items) }
+    requires room { length rule.now.table.rows.items ≤ length bodies.old }
     requires within { position < length (S.Session.states session.now) }
-    requires after { (k : ℕ) → k < length rule.now.table.rows.items → slice_index_or marks.old k M.Scale.ops.top ≡ straight_mark M.Scale.ops rule.now.table.rows.items k (drop (position + 1) (S.Session.states session.now)) }
-    requires later { Bodies rule.now.table.rows.items (drop (position + 1) (S.Session.states session.now)) seen.now }
-    ensures filled { Filled M.Scale.ops (length rule.now.table.rows.items) (straight_mark M.Scale.ops rule.now.table.rows.items) (drop position (S.Session.states session.now)) (drop (position + 1) (S.Session.states session.now)) (length rule.now.table.rows.items) marks.old marks.new }
-    ensures here { Bodies rule.now.table.rows.items (slice_index_or (S.Session.states session.now) position no_state ∷ []) passing.new }
+    requires marked { MarksOn M.Scale.ops (straight_mark M.Scale.ops rule.now.table.rows.items) (drop (position + 1) (S.Session.states session.now)) (length rule.now.table.rows.items) marks.old }
+    requires later { Bodies rule.now.table.rows.items (drop (position + 1) (S.Session.states session.now)) (laters bodies.old) }
+    ensures marked { MarksOn M.Scale.ops (straight_mark M.Scale.ops rule.now.table.rows.items) (drop position (S.Session.states session.now)) (length rule.now.table.rows.items) marks.new }
+    ensures stored { after.new ≡ marks.old }
+    ensures here { Bodies rule.now.table.rows.items (slice_index_or (S.Session.states session.now) position no_state ∷ []) (heres bodies.new) }
+    ensures later { laters bodies.new ≡ laters bodies.old }
 {
-    let rows = rule.table().rows.as_slice();
-    let homes = rule.homes.as_slice();
     let state = state_at(session, position);
-    let not_last = position < session.len() - 1;
-    find_passing(rule, &state, passing);
-    for number in 0..rows.len() {
-        let home = homes[number];
-        marks[rows.len() + number] = marks[number];
-        if at_home(home, passing, true) {
-            let later = at_home(home, seen, not_last);
-            marks[number] = state_mark(rows[number], number, rows.len(), &state, later, marks);
+    let whole = Left {
+        here: true,
+        later: position < session.len() - 1,
+    };
+    find_here(rule, &state, bodies);
+    after.copy_from_slice(marks);
+    for (number, (row, home)) in rule.table.rows.iter().zip(&rule.homes).enumerate() {
+        let left = left_at(*home, bodies, whole);
+        if left.here {
+            marks[number] = state_mark(*row, number, &state, left.later, marks, after);
         }
     }
 }
 
 // The marks of all rows on what is left of the session for them, and of the session from 1; tells the last row's mark, for which
 // all of it is left.
-pub(crate) fn mark_rule_rows<M: Scale, S: Session>(rule: &Rule, session: &S, marks: &mut [M]) -> M
-    requires { 2 * length rule.now.table.rows.items ≤ length marks.old }
+pub(crate) fn mark_rule_rows<M: Scale, S: Session>(rule: &Rule, session: &S, strip: &mut [M]) -> M
+    requires { 2 * length rule.now.table.rows.items ≤ length strip.old }
     ensures value { result ≡ row_mark M.Scale.ops rule.now.table.rows.items (length rule.now.table.rows.items - 1) (S.Session.states session.now) }
-    ensures filled { Filled M.Scale.ops (length rule.now.table.rows.items) (straight_mark M.Scale.ops rule.now.table.rows.items) (S.Session.states session.now) (drop 1 (S.Session.states session.now)) (length rule.now.table.rows.items) marks.old marks.new }
+    ensures filled { Filled M.Scale.ops (length rule.now.table.rows.items) (straight_mark M.Scale.ops rule.now.table.rows.items) (S.Session.states session.now) (drop 1 (S.Session.states session.now)) (length rule.now.table.rows.items) strip.old strip.new }
 {
-    let rows = rule.table().rows.as_slice();
-    let mut passing = [false; 1024];
-    let mut seen = [false; 1024];
-    start(rows, marks);
+    let rows = rule.table.rows.as_slice();
+    let (marks, rest) = strip.split_at_mut(rows.len());
+    let after = &mut rest[..rows.len()];
+    let mut bodies = [Left::default(); 1024];
+    start(rows, marks, after);
     for position in (0..session.len()).rev() {
-        step(rule, session, position, &mut passing, &seen, marks);
-        add_seen(&passing, &mut seen);
+        step(rule, session, position, &mut bodies, marks, after);
+        add_later(&mut bodies);
     }
-    last_mark(marks, rows.len())
+    last_mark(marks)
 }

@@ -1,33 +1,15 @@
 -- A propositional formula is top or bottom on every scale, by its yes/no mark on the first state alone.
-use Rattle.std.proofs.Common.{◌≡◌, Bool, true, false, cond, not as negated, ◌&&◌, ◌||◌, List, [], ◌∷◌, filter, sym, refl, ap, ◌∙◌, ap₂}
+use Rattle.std.proofs.Common.{◌≡◌, Bool, true, false, cond, ◌&&◌, List, [], ◌∷◌, filter, sym, refl, ap, ◌∙◌, ap₂}
 use mathlib.Core.Path.{fun_ext}
 use Rattle.scales.specs.Lattice.{Lattice, Laws}
-use Rattle.scales.specs.YesNo.{yes_no, is_yes, both, either, opposite, answer}
-use Rattle.scales.specs.declared.yes_no.YesNo.{YesNo}
-use Rattle.scales.specs.declared.yes_no.YesNo.TheVariants.{No, Yes}
+use Rattle.scales.specs.YesNo.{yes_no}
 use Rattle.sessions.specs.States.{has_flag}
 use Rattle.sessions.specs.declared.state.State.{State}
 use Rattle.meaning.specs.Formulas.{Formula, top, flag, code, not, and, or, next, until, always, eventually, inside}
 use Rattle.meaning.specs.Gated.{Propositional}
 use Rattle.meaning.specs.Meaning.{mark, in_scope, thinned}
+use Rattle.scales.proofs.Marks.{is_yes_answer, is_yes_opposite, is_yes_both, is_yes_either}
 use Rattle.meaning.proofs.Lattices.{sharp, sharp_not, sharp_and, sharp_or}
-
--- is_yes of the operators of the yes/no scale
-is_yes_answer : (b : Bool) → is_yes (answer b) ≡ b
-is_yes_answer true = refl
-is_yes_answer false = refl
-
-is_yes_opposite : (a : YesNo) → is_yes (opposite a) ≡ negated (is_yes a)
-is_yes_opposite No = refl
-is_yes_opposite Yes = refl
-
-is_yes_both : (a b : YesNo) → is_yes (both a b) ≡ (is_yes a && is_yes b)
-is_yes_both No b = refl
-is_yes_both Yes b = refl
-
-is_yes_either : (a b : YesNo) → is_yes (either a b) ≡ (is_yes a || is_yes b)
-is_yes_either No b = refl
-is_yes_either Yes b = refl
 
 module _ {M : Type 0} (L : Lattice M) (laws : Laws L) where
   pub gate_mark : (g : Formula) → Propositional g → (state : State) (w : List State) → mark L g (state ∷ w) ≡ cond (in_scope g state) L.top L.bottom

@@ -1,16 +1,10 @@
 // Lists the rules of the pack `rules.pack` in the working folder.
 #![tactic(auto)]
 
-use files::read_file;
+use files::print_listing;
 use report::pack_listing;
 
-fn run(rt: &HostRuntime) -> anyhow::Result<()> {
-    let file = read_file(rt, "rules.pack")?;
-    let text = pack_listing(rt.alloc(), file.as_slice())?;
-    print!(rt; "{text}")?;
-    Ok(())
-}
-
 fn main(rt: HostRuntime) -> anyhow::Result<()> {
-    run(&rt)
+    // A closure: the check does not take a function of another crate by its name here.
+    print_listing(&rt, "rules.pack", |heap, file| pack_listing(heap, file))
 }

@@ -1,5 +1,5 @@
 -- How much a pack has from a place on.
-use Rattle.std.specs.Prelude.{ℕ, ◌-◌, Bool, true, false, List, map, length, Some, None, sum_by, count_by, Option}
+use Rattle.std.specs.Prelude.{ℕ, ◌-◌, Bool, true, false, List, ◌++◌, map, length, Some, None, codes, decimal, sum_by, count_by, Option}
 use Rattle.std.specs.List.{range_with_len}
 use Rattle.tables.specs.Faults.{rule_bytes_fault}
 use Rattle.tables.specs.Format.{rows_of}
@@ -32,3 +32,7 @@ summary_of bytes k = record {
   rows = sum_by lawful_rows_in (tables_from bytes k (rule_count bytes - k));
   refused = count_by is_refused (tables_from bytes k (rule_count bytes - k));
 }
+
+-- how a summary is printed
+abbrev pub printed : Summary → List ℕ
+printed s = decimal s.rules ++ (codes " rules, " ++ (decimal s.rows ++ (codes " rows, " ++ (decimal s.refused ++ codes " refused"))))

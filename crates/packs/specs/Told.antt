@@ -1,5 +1,5 @@
 -- What is told of each fault of a pack: its number, its place and its layer. A table's fault tells what it tells by itself.
-use Rattle.std.specs.Prelude.{ℕ, Some, None, Ok, Err, Option, Result}
+use Rattle.std.specs.Prelude.{ℕ, Some, None, Option}
 use Rattle.refusals.specs.declared.Layer.TheVariants.{Pack}
 use Rattle.refusals.specs.declared.Refusal.{Refusal}
 use Rattle.tables.specs.Told as table
@@ -16,7 +16,3 @@ told (InRule fault number) = table.told fault
 abbrev pub at_rule : ℕ → Option TableFault → Option PackFault
 at_rule number None = None
 at_rule number (Some fault) = Some (InRule fault number)
-
-abbrev pub paired : {X : Type 0} → Result X TableFault → ℕ → Result X (TableFault × ℕ)
-paired (Ok x) number = Ok x
-paired (Err fault) number = Err (fault, number)

@@ -1,7 +1,7 @@
 // Why a pack, or a rule in it, is refused.
 ghost use Rattle.std.specs.Prelude.{◌≡◌};
 ghost use Rattle.refusals.specs.Answers.{Answers};
-ghost use Rattle.packs.specs.Told.{told, at_rule, paired};
+ghost use Rattle.packs.specs.Told.{told, at_rule};
 ghost use Rattle.packs.specs.declared.fault.PackFault.TheVariants.{InRule};
 ghost use Rattle.tables.specs.Faults.{rule_bytes_fault};
 ghost use Rattle.tables.specs.Reading.{Reads};
@@ -9,7 +9,7 @@ ghost use Rattle.tables.specs.Reading.{Reads};
 use refusals::{Layer, Refusal};
 use tables::{Rule, RuleMemory, TableFault};
 
-#[derive(Clone, Copy, Debug, PartialEq)]
+#[derive(Clone, Copy, Debug, PartialEq, Eq, Hash)]
 pub enum PackFault {
     // Fewer than two bytes, or not 1 to 64 rules.
     RuleCount,
@@ -19,23 +19,19 @@ pub enum PackFault {
     InRule(TableFault, usize),
 }
 
-impl PackFault {
-    pub fn refusal(self) -> Refusal
-        ensures { result ≡ told self }
-    {
-        let layer = Layer::Pack;
-        match self {
-            PackFault::RuleCount => Refusal {
-                number: 12,
-                place: 0,
-                layer,
-            },
-            PackFault::Length => Refusal {
-                number: 13,
-                place: 0,
-                layer,
-            },
-            PackFault::InRule(fault, _) => fault.refusal(),
+impl From<PackFault> for Refusal {
+    ghost from_gives = { λ fault refusal. refusal ≡ told fault };
+
+    fn from(fault: PackFault) -> Refusal {
+        let number = match fault {
+            PackFault::RuleCount => 12,
+            PackFault::Length => 13,
+            PackFault::InRule(inner, _) => return inner.into(),
+        };
+        Refusal {
+            number,
+            place: 0,
+            layer: Layer::Pack,
         }
     }
 }
@@ -49,20 +45,10 @@ impl From<(TableFault, usize)> for PackFault {
     }
 }
 
-// A table's fault beside the number of its rule.
-fn numbered(read: Result<Rule, TableFault>, number: usize) -> Result<Rule, (TableFault, usize)>
-    ensures { result ≡ paired read number }
-{
-    match read {
-        Ok(rule) => Ok(rule),
-        Err(fault) => Err((fault, number)),
-    }
-}
-
 // The rule that these bytes hold, which are the table of the rule of this number in a pack.
 pub fn read_rule(table: &[u8], number: usize, memory: RuleMemory) -> Result<Rule, PackFault>
     ensures { Answers (at_rule number (rule_bytes_fault table.now)) result (λ rule. Reads table.now rule.table) }
 {
-    let rule = numbered(Rule::read(table, memory), number)?;
+    let rule = Rule::read(table, memory).map_err(|fault| (fault, number))?;
     Ok(rule)
 }

@@ -6,7 +6,8 @@ ghost use Rattle.packs.specs.Reader.{moved};
 
 use crate::pack::Pack;
 
-// Holds a pack reader's place, and puts it back when it ends.
+// Holds a pack reader's place, and puts it back when it ends. A type of its own beside the reader, by a rule of the project: it borrows
+// the place alone, and is lent the pack.
 pub struct LookAhead<'b> {
     place: &'b mut usize,
     start: usize,
@@ -52,10 +53,6 @@ impl<'b> LookAhead<'b> {
         ensures start { self.new.start ≡ self.old.start }
         ensures name { self.new.place.ghost_name ≡ self.old.place.ghost_name }
     {
-        if *self.place >= pack.count() {
-            return false;
-        }
-        *self.place += 1;
-        true
+        pack.step(self.place)
     }
 }

@@ -10,7 +10,7 @@ use crate::pack::Pack;
 use tables::{Rule, RuleMemory};
 
 // The place is the number of the rule that comes next.
-#[derive(Drop)]
+#[derive(Debug, Drop)]
 pub struct PackReader<'a> {
     pub pack: Pack<'a>,
     pub place: usize,
@@ -44,11 +44,7 @@ impl<'a> PackReader<'a> {
         ensures place { self.new.place ≡ moved self.old.pack.bytes.now self.old.place }
         ensures pack { self.new.pack ≡ self.old.pack }
     {
-        if self.place >= self.pack.count() {
-            return false;
-        }
-        self.place += 1;
-        true
+        self.pack.step(&mut self.place)
     }
 
     // Reads the rule at the place and goes on by one. There may be no more; a refused rule leaves the place.

@@ -1,13 +1,14 @@
 // How much a pack has, counted in a look ahead.
-ghost use Rattle.std.specs.Prelude.{◌≡◌, ◌≤◌, cond, IfOk};
-ghost use Rattle.packs.specs.Summary.{lawful_rows_in, is_refused, summary_of};
+ghost use Rattle.std.specs.Prelude.{◌≡◌, ◌≤◌, true, false, Some, IfOk, MatchOption};
+ghost use Rattle.packs.specs.Summary.{lawful_rows_in, is_refused, summary_of, printed};
 
 use crate::look::LookAhead;
 use crate::reader::PackReader;
 use std::alloc::{AllocError, Global};
+use std::fmt;
 use tables::{Rule, RuleMemory};
 
-#[derive(Clone, Copy)]
+#[derive(Clone, Copy, Debug, PartialEq, Eq, Hash)]
 pub struct Summary {
     pub rules: usize,
     // The rows of the lawful rules.
@@ -15,14 +16,29 @@ pub struct Summary {
     pub refused: usize,
 }
 
-// The rows of a lawful rule of these bytes, and whether they are refused.
-fn count_rule(heap: Global, table: &[u8]) -> Result<(usize, bool), AllocError>
-    ensures { IfOk result (λ p. (p.0 ≡ lawful_rows_in table.now) × (p.1 ≡ is_refused table.now) × (p.0 ≤ 1024)) }
+impl fmt::Display for Summary {
+    ghost output = { λ summary. Some (printed summary) };
+
+    fn fmt<W: fmt::Write>(&self, f: &mut fmt::Formatter<W>) -> fmt::Result {
+        let Summary {
+            rules,
+            rows,
+            refused,
+        } = self;
+        write!(f, "{rules} rules, {rows} rows, {refused} refused")
+    }
+}
+
+// The rows of a lawful rule of these bytes, if they are one.
+fn lawful_rows(heap: Global, table: &[u8]) -> Result<Option<usize>, AllocError>
+    ensures { IfOk result (λ rows. MatchOption rows
+        (is_refused table.now ≡ true × lawful_rows_in table.now ≡ 0)
+        (λ n. is_refused table.now ≡ false × n ≡ lawful_rows_in table.now × n ≤ 1024)) }
 {
     let memory = RuleMemory::reserve(heap)?;
     match Rule::read(table, memory) {
-        Ok(rule) => Ok((rule.table().len(), false)),
-        Err(_) => Ok((0, true)),
+        Ok(rule) => Ok(Some(rule.table().len())),
+        Err(_) => Ok(None),
     }
 }
 
@@ -39,9 +55,10 @@ impl PackReader<'_> {
         let mut rows = 0;
         let mut refused = 0;
         while let Some(table) = look.table(&pack) {
-            let (more, fault) = count_rule(heap, table)?;
-            rows += more;
-            refused += usize::from(fault);
+            match lawful_rows(heap, table)? {
+                Some(more) => rows += more,
+                None => refused += 1,
+            }
             look.skip(&pack);
         }
         Ok(Summary {

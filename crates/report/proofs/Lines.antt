@@ -1,7 +1,8 @@
 -- One more line of a listing.
-use Rattle.std.proofs.Common.{◌≡◌, ℕ, ◌+◌, ◌<◌, ◌≤◌, Bool, true, false, cond, ltb, List, [], ◌∷◌, ◌++◌, length, get_or, drop, Some, None, vec_items, Option, sym, refl, ap, ◌∙◌, append_assoc, append-nil, arith, ltb-false, ltb-true, lt-ltb}
+use Rattle.std.proofs.Common.{◌≡◌, ℕ, ◌+◌, ◌<◌, ◌≤◌, cond, ltb, List, [], ◌∷◌, ◌++◌, length, get_or, drop, Some, None, vec_items, Option, sym, refl, ap, ◌∙◌, append_assoc, append-nil, arith, ltb-true, lt-ltb}
 use Rattle.std.specs.List.{range_with_len, flat_map}
 use Rattle.std.proofs.lemmas.List.{flat_map_more, map-id, drop_more, drop_all}
+use Rattle.std.proofs.lemmas.Option.{cond_some}
 use Rattle.std.proofs.lemmas.List.FromFn.{map-range_with_len_more}
 use Rattle.packs.specs.Format.{rule_count, label_of, table_of, label_if}
 use Rattle.packs.specs.Reader.{load_fault}
@@ -14,25 +15,16 @@ use Rattle.tables.specs.Reading.{Reads}
 use Rattle.tables.specs.declared.fault.TableFault.{TableFault}
 use Rattle.tables.specs.declared.table.Table.{Table}
 use Rattle.report.specs.Lines.{rule_line, refused_line, numbered}
-use Rattle.rows.specs.Rows.{blank}
-use Rattle.rows.specs.declared.row.Row.{Row}
-use Rattle.report.specs.Plain.{row_line, row_lines}
 use Rattle.report.specs.Listing.{line_by, line_of, line_at}
 
 -- a label that is handed out is that of a rule, and where none is handed out there are no more
 pub label_there : (bytes : List ℕ) (k label : ℕ) → Some label ≡ label_if bytes k → (k < rule_count bytes) × (label ≡ label_of bytes k)
-label_there bytes k label = go (ltb k (rule_count bytes)) refl
-  where
-    go : (b : Bool) → ltb k (rule_count bytes) ≡ b → Some label ≡ cond b (Some (label_of bytes k)) None → (k < rule_count bytes) × (label ≡ label_of bytes k)
-    go true is e = (ltb-true k (rule_count bytes) is, cc)
-    go false is e = let z : ◌≡◌ {A = ℕ} 0 1 = cc in absurd (omega arith)
+label_there bytes k label e =
+    let h = cond_some (ltb k (rule_count bytes)) (label_of bytes k) label (sym e) in
+    (ltb-true k (rule_count bytes) h.0, sym h.1)
 
 pub no_label : (bytes : List ℕ) (k : ℕ) → None ≡ label_if bytes k → rule_count bytes ≤ k
-no_label bytes k = go (ltb k (rule_count bytes)) refl
-  where
-    go : (b : Bool) → ltb k (rule_count bytes) ≡ b → None ≡ cond b (Some (label_of bytes k)) None → rule_count bytes ≤ k
-    go true is e = let z : ◌≡◌ {A = ℕ} 0 1 = cc in absurd (omega arith)
-    go false is e = ltb-false k (rule_count bytes) is
+no_label bytes k none = grind arith
 
 -- what loading a rule that is there says of the fault of its table
 module _ (bytes : List ℕ) (k : ℕ) (within : k < rule_count bytes) where
@@ -47,14 +39,14 @@ module _ (bytes : List ℕ) (k : ℕ) (within : k < rule_count bytes) where
     where
       none_at : (o : Option TableFault) → at_rule k o ≡ None → o ≡ None
       none_at None e = refl
-      none_at (Some f) e = let z : ◌≡◌ {A = ℕ} 0 1 = cc in absurd (omega arith)
+      none_at (Some f) e = grind arith
 
   pub faulty_line : (fault : PackFault) → load_fault bytes k ≡ Some fault → refused_line (label_of bytes k) (pack.told fault).number (pack.told fault).place ≡ line_at bytes k
   unfolding line_of
   faulty_line fault found = go (rule_bytes_fault (table_of bytes k)) (sym load_at ∙ found)
     where
       go : (o : Option TableFault) → at_rule k o ≡ Some fault → refused_line (label_of bytes k) (pack.told fault).number (pack.told fault).place ≡ line_by (label_of bytes k) (table_of bytes k) o
-      go None e = let z : ◌≡◌ {A = ℕ} 0 1 = cc in absurd (omega arith)
+      go None e = absurd (grind arith)
       go (Some f) e = let same : fault ≡ InRule f k = cc in ap (λ x. refused_line (label_of bytes k) (pack.told x).number (pack.told x).place) same
 
 counting_more : (k : ℕ) → range_with_len 0 (k + 1) ≡ range_with_len 0 k ++ (k ∷ [])
@@ -62,27 +54,6 @@ counting_more k =
     sym (map-id (range_with_len 0 (k + 1)))
     ∙ map-range_with_len_more (λ (n : ℕ). n) 0 k k (omega arith)
     ∙ ap (λ l. l ++ (k ∷ [])) (map-id (range_with_len 0 k))
-
-pub lines_more : (bytes head text line : List ℕ) (k next : ℕ) → text ≡ head ++ flat_map (line_at bytes) (range_with_len 0 k) → line ≡ line_at bytes k → next ≡ k + 1 → text ++ line ≡ head ++ flat_map (line_at bytes) (range_with_len 0 next)
-lines_more bytes head text line k next sofar here is =
-    (λ d. sofar d ++ here d)
-    ∙ flat_map_more (line_at bytes) head (range_with_len 0 k) k
-    ∙ ap (λ l. head ++ flat_map (line_at bytes) l) (sym (counting_more k))
-    ∙ ap (λ n. head ++ flat_map (line_at bytes) (range_with_len 0 n)) (sym is)
-
--- one more row of a table, and no more rows
-pub rows_more : (text line whole : List ℕ) (i : ℕ) (rows : List Row) → i < length rows → line ≡ row_line i (get_or rows i blank) → text ++ row_lines i (drop i rows) ≡ whole → (text ++ line) ++ row_lines (i + 1) (drop (i + 1) rows) ≡ whole
-unfolding row_lines
-rows_more text line whole i rows within here before =
-    append_assoc text line (row_lines (i + 1) (drop (i + 1) rows))
-    ∙ ap (λ l. text ++ (l ++ row_lines (i + 1) (drop (i + 1) rows))) here
-    ∙ ap (λ l. text ++ row_lines i l) (sym (drop_more rows i blank within))
-    ∙ before
-
-pub rows_done : (text whole : List ℕ) (i : ℕ) (rows : List Row) → length rows ≤ i → text ++ row_lines i (drop i rows) ≡ whole → text ≡ whole
-unfolding row_lines
-rows_done text whole i rows past before =
-    sym (append-nil text) ∙ ap (λ l. text ++ row_lines i l) (sym (drop_all i rows past)) ∙ before
 
 -- one more of the lines of all numbers below some number
 pub lines_by_more : (of : ℕ → List ℕ) (head text line : List ℕ) (k next : ℕ) → text ≡ head ++ flat_map of (range_with_len 0 k) → line ≡ of k → next ≡ k + 1 → text ++ line ≡ head ++ flat_map of (range_with_len 0 next)

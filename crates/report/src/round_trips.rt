@@ -1,5 +1,6 @@
 // Tables written and read back: the smallest and the largest, into buffers that are short, exact and long.
 use crate::tests::chain;
+use refusals::Refusal;
 use std::alloc::Global;
 use std::process::Abort;
 use std::test::Fail;
@@ -49,7 +50,7 @@ fn plain_tables(rt: HostRuntime) -> Result<(), Fail> {
 
 #[test]
 fn refusal_of_a_short_buffer(rt: HostRuntime) {
-    let told = TableFault::BufferShort(9).refusal();
+    let told = Refusal::from(TableFault::BufferShort(9));
     assert_eq!(rt; told.number, 22);
     assert_eq!(rt; told.place, 9);
 }

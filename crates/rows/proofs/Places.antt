@@ -1,5 +1,5 @@
 -- One step of the walk from the last row down that finds every home.
-use Rattle.std.proofs.Common.{◌≡◌, ℕ, ◌+◌, ◌-◌, ◌<◌, ◌≤◌, Bool, true, false, cond, eqb, List, length, get_or, drop, set, replicate, sym, refl, ap, ◌∙◌, subst, arith, length-set, eqb-true}
+use Rattle.std.proofs.Common.{◌≡◌, ℕ, ◌+◌, ◌<◌, Bool, true, false, cond, eqb, List, length, get_or, drop, set, replicate, sym, refl, ap, ◌∙◌, subst, arith, length-set, eqb-true}
 use borrow.Author.Tests.{eqb-false}
 use Rattle.std.proofs.lemmas.List.{get_or-set_same, get_or-set_other, get_or-replicate, drop_more, drop_all}
 use Rattle.std.proofs.lemmas.List.FromFn.{fill_by_all, length-map-range_with_len}
@@ -49,25 +49,19 @@ known_none rows j within =
     get_or-replicate (length rows) j Outside Outside within
     ∙ sym (ap (λ l. home_from (length rows) l j) (drop_all (length rows) rows (omega arith)))
 
-step : (rows : List Row) (hs : List Home) (k : ℕ) (d : Row) → k < length rows → length hs ≡ length rows → Known rows (k + 1) hs → Known rows k (handed (get_or rows k d) k (get_or hs k Outside) hs)
+pub known_more : (rows : List Row) (hs : List Home) (k : ℕ) (d : Row) → k < length rows → length hs ≡ length rows → Known rows (k + 1) hs → Known rows k (handed (get_or rows k d) k (get_or hs k Outside) hs)
 unfolding home_from
-step rows hs k d k_within long known j within =
+known_more rows hs k d k_within long known j within =
     let r = get_or rows k d in
     let at : Home → Home → Home = λ own other. cond (left_is r j) (left_home r.kind k own) (cond (right_is r j) (right_home r.kind k own) other) in
     handed_at r k j (get_or hs k Outside) hs (subst (λ m. j < m) (sym long) within)
     ∙ (λ i. at (known k k_within i) (known j within i))
     ∙ sym (ap (λ l. home_from k l j) (drop_more rows k d k_within))
 
-pub known_more : (rows : List Row) (hs : List Home) (n : ℕ) (d : Row) → 0 < n → n ≤ length rows → length hs ≡ length rows → Known rows n hs → Known rows (n - 1) (handed (get_or rows (n - 1) d) (n - 1) (get_or hs (n - 1) Outside) hs)
-known_more rows hs n d some within long known =
-    let back : n ≡ n - 1 + 1 = omega arith in
-    step rows hs (n - 1) d (omega arith) long (subst (λ m. Known rows m hs) back known)
-
-pub known_all : (rows : List Row) (hs : List Home) (n : ℕ) → n ≤ 0 → length hs ≡ length rows → Known rows n hs → hs ≡ homes rows
+pub known_all : (rows : List Row) (hs : List Home) (n : ℕ) → n ≡ 0 → length hs ≡ length rows → Known rows n hs → hs ≡ homes rows
 unfolding homes home
 known_all rows hs n none long known =
-    let zero_is : n ≡ 0 = omega arith in
-    fill_by_all (home rows) hs (length rows) Outside long (subst (λ m. Known rows m hs) zero_is known)
+    fill_by_all (home rows) hs (length rows) Outside long (subst (λ m. Known rows m hs) none known)
 
 pub length_homes : (rows : List Row) {hs : List Home} → hs ≡ homes rows → length hs ≡ length rows
 unfolding homes

@@ -12,6 +12,11 @@ use Rattle.rows.specs.declared.home.Home.TheVariants.{Outside, Body, Scope}
 
 -- An in row puts its left operand into its body and its right operand into its scope; an operand of any other row stands
 -- where that row stands. What stands in a scope keeps its operands there.
+abbrev pub operand_home : Kind → Home → Home → Home
+operand_home kind inner Outside = cond (is_in kind) inner Outside
+operand_home kind inner (Body k) = cond (is_in kind) inner (Body k)
+operand_home kind inner (Scope k) = Scope k
+
 abbrev pub left_home : Kind → ℕ → Home → Home
 left_home kind n Outside = cond (is_in kind) (Body n) Outside
 left_home kind n (Body k) = cond (is_in kind) (Body n) (Body k)

@@ -1,7 +1,8 @@
 -- The kinds of row: their numbers, and what the two halves of an argument are.
-use Rattle.std.specs.Prelude.{ℕ, Bool, true, false, cond, List, Some, None, codes, Option, ◌==◌, nat_lt}
+use Rattle.std.specs.Prelude.{ℕ, Bool, true, false, cond, List, Some, None, Ok, Err, codes, Option, Result, ◌==◌, nat_lt}
 use Rattle.rows.specs.declared.kind.Kind.{Kind}
 use Rattle.rows.specs.declared.kind.Kind.TheVariants.{Top, Flag, Code, Not, And, Or, Next, Until, Always, Eventually, In}
+use Rattle.rows.specs.declared.kind.UnknownKind.{UnknownKind}
 use Rattle.rows.specs.declared.kind.HalfUse.{HalfUse}
 use Rattle.rows.specs.declared.kind.HalfUse.TheVariants.{Zero, FlagNumber, CodeNumber, Operand}
 
@@ -37,6 +38,14 @@ kind_of n =
     cond (n == 1) (Some Top) (cond (n == 2) (Some Flag) (cond (n == 3) (Some Code) (cond (n == 4) (Some Not)
     (cond (n == 5) (Some And) (cond (n == 6) (Some Or) (cond (n == 7) (Some Next) (cond (n == 8) (Some Until)
     (cond (n == 9) (Some Always) (cond (n == 10) (Some Eventually) (cond (n == 11) (Some In) None))))))))))
+
+-- what a number is read as: the kind that has it, or the error that names it
+abbrev pub named : ℕ → Option Kind → Result Kind UnknownKind
+named n None = Err (record { 0 = n })
+named n (Some kind) = Ok kind
+
+abbrev pub kind_read : ℕ → Result Kind UnknownKind
+kind_read n = named n (kind_of n)
 
 abbrev pub left_use : Kind → HalfUse
 left_use Top = Zero

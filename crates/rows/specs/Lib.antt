@@ -2,3 +2,4 @@ pub mod Homes
 pub mod Kinds
 pub mod Reach
 pub mod Rows
+pub mod Printed

@@ -1,8 +1,10 @@
 // The eleven kinds of row, and what each half of a row's argument is for each kind.
-ghost use Rattle.std.specs.Prelude.{◌≡◌};
-ghost use Rattle.rows.specs.Kinds.{number, word_of, kind_of, left_use, right_use, is_in, may_scope, zero_kept, number_kept, order_kept, names_row};
+ghost use Rattle.std.specs.Prelude.{◌≡◌, Some};
+ghost use Rattle.rows.specs.Kinds.{number, word_of, kind_read, left_use, right_use, is_in, may_scope};
 
-#[derive(Clone, Copy)]
+use std::fmt;
+
+#[derive(Clone, Copy, Debug, PartialEq, Eq, Hash)]
 pub enum Kind {
     Top,
     Flag,
@@ -17,8 +19,12 @@ pub enum Kind {
     In,
 }
 
+// A number that no kind has.
+#[derive(Clone, Copy, Debug, PartialEq, Eq, Hash)]
+pub struct UnknownKind(pub u8);
+
 // What one half of a row's argument is.
-#[derive(Clone, Copy)]
+#[derive(Clone, Copy, Debug, PartialEq, Eq, Hash)]
 pub enum HalfUse {
     // It has to be 0.
     Zero,
@@ -28,7 +34,7 @@ pub enum HalfUse {
     Operand,
 }
 
-// The left and the right half by kind, in the order of the kinds' numbers.
+// The left and the right half by kind, in the order of the kinds' numbers: one of the project's two constant tables by kind.
 const HALVES: [(HalfUse, HalfUse); 11] = [
     (HalfUse::Zero, HalfUse::Zero),
     (HalfUse::FlagNumber, HalfUse::Zero),
@@ -43,33 +49,47 @@ const HALVES: [(HalfUse, HalfUse); 11] = [
     (HalfUse::Operand, HalfUse::Operand),
 ];
 
-impl Kind {
-    // The kind with this number, if there is one.
-    pub fn from_number(number: u8) -> Option<Kind>
-        ensures { result ≡ kind_of number }
-    {
+impl TryFrom<u8> for Kind {
+    type Error = UnknownKind;
+
+    ghost try_from_gives = { λ number kind. kind ≡ kind_read number };
+
+    fn try_from(number: u8) -> Result<Kind, UnknownKind> {
         match number {
-            1 => Some(Kind::Top),
-            2 => Some(Kind::Flag),
-            3 => Some(Kind::Code),
-            4 => Some(Kind::Not),
-            5 => Some(Kind::And),
-            6 => Some(Kind::Or),
-            7 => Some(Kind::Next),
-            8 => Some(Kind::Until),
-            9 => Some(Kind::Always),
-            10 => Some(Kind::Eventually),
-            11 => Some(Kind::In),
-            _ => None,
+            1 => Ok(Kind::Top),
+            2 => Ok(Kind::Flag),
+            3 => Ok(Kind::Code),
+            4 => Ok(Kind::Not),
+            5 => Ok(Kind::And),
+            6 => Ok(Kind::Or),
+            7 => Ok(Kind::Next),
+            8 => Ok(Kind::Until),
+            9 => Ok(Kind::Always),
+            10 => Ok(Kind::Eventually),
+            11 => Ok(Kind::In),
+            _ => Err(UnknownKind(number)),
         }
     }
+}
 
-    pub fn number(self) -> u8
-        ensures { result ≡ number self }
-    {
-        self as u8 + 1
+impl From<Kind> for u8 {
+    ghost from_gives = { λ kind n. n ≡ number kind };
+
+    fn from(kind: Kind) -> u8 {
+        kind as u8 + 1
     }
+}
 
+impl fmt::Display for Kind {
+    ghost output = { λ kind. Some (word_of kind) };
+
+    fn fmt<W: fmt::Write>(&self, f: &mut fmt::Formatter<W>) -> fmt::Result {
+        f.write_str(self.word())
+    }
+}
+
+impl Kind {
+    // Beside `Display`, which can fail.
     pub fn word(self) -> &'static str
         ensures { result.now ≡ word_of self }
     {
@@ -88,25 +108,21 @@ impl Kind {
         }
     }
 
-    pub fn left_use(self) -> HalfUse
-        ensures { result ≡ left_use self }
+    // What the left and the right half of a row of this kind are.
+    pub fn halves(self) -> (HalfUse, HalfUse)
+        ensures left { result.0 ≡ left_use self }
+        ensures right { result.1 ≡ right_use self }
     {
-        HALVES[self as usize].0
-    }
-
-    pub fn right_use(self) -> HalfUse
-        ensures { result ≡ right_use self }
-    {
-        HALVES[self as usize].1
+        HALVES[self as usize]
     }
 
     pub fn is_in(self) -> bool
         ensures { result ≡ is_in self }
     {
-        matches!(self, Kind::In)
+        self == Kind::In
     }
 
-    // Whether a row of this kind may stand in a scope.
+    // Whether a row of this kind may stand in a scope. Five kinds in one pattern, where `==` would stand five times.
     pub fn may_scope(self) -> bool
         ensures { result ≡ may_scope self }
     {
@@ -114,48 +130,5 @@ impl Kind {
             self,
             Kind::Top | Kind::Flag | Kind::Not | Kind::And | Kind::Or
         )
-    }
-}
-
-impl HalfUse {
-    // Whether a half that has to be 0 is 0.
-    pub fn keeps_zero(self, half: u16) -> bool
-        ensures { result ≡ zero_kept self half }
-    {
-        match self {
-            HalfUse::Zero => half == 0,
-            HalfUse::FlagNumber | HalfUse::CodeNumber | HalfUse::Operand => true,
-        }
-    }
-
-    // Whether a flag or code number is below the number used.
-    pub fn keeps_number(self, half: u16, flags: u8, codes: u8) -> bool
-        ensures { result ≡ number_kept flags codes self half }
-    {
-        match self {
-            HalfUse::FlagNumber => half < u16::from(flags),
-            HalfUse::CodeNumber => half < u16::from(codes),
-            HalfUse::Zero | HalfUse::Operand => true,
-        }
-    }
-
-    // Whether an operand is below its row.
-    pub fn keeps_order(self, half: u16, row: usize) -> bool
-        ensures { result ≡ order_kept row self half }
-    {
-        match self {
-            HalfUse::Operand => usize::from(half) < row,
-            HalfUse::Zero | HalfUse::FlagNumber | HalfUse::CodeNumber => true,
-        }
-    }
-
-    // Whether a half of this use names this row as an operand.
-    pub fn names(self, half: u16, row: usize) -> bool
-        ensures { result ≡ names_row self half row }
-    {
-        match self {
-            HalfUse::Operand => usize::from(half) == row,
-            HalfUse::Zero | HalfUse::FlagNumber | HalfUse::CodeNumber => false,
-        }
     }
 }

@@ -1,7 +1,7 @@
 // A score: a whole number from -100 to 100.
 ghost use Rattle.std.specs.Prelude.{◌≡◌, pos, negsuc, ◌≤ℤ◌};
 
-#[derive(Clone, Copy)]
+#[derive(Clone, Copy, Debug, PartialEq, Eq, PartialOrd, Ord, Hash)]
 pub struct Score {
     pub(crate) value: i8,
     ghost low: { negsuc 99 ≤ℤ value },

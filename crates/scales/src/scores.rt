@@ -23,15 +23,11 @@ impl Scale for Score {
     }
 
     fn meet(self, other: Score) -> Score {
-        Score {
-            value: self.value.min(other.value),
-        }
+        self.min(other)
     }
 
     fn join(self, other: Score) -> Score {
-        Score {
-            value: self.value.max(other.value),
-        }
+        self.max(other)
     }
 
     fn reading(code: i8) -> Score {

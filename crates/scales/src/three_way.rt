@@ -4,7 +4,7 @@ ghost use Rattle.scales.specs.ThreeWay.{three_way, three_way_laws};
 use crate::scale::Scale;
 
 // The marks, rising.
-#[derive(Clone, Copy, Debug, PartialEq)]
+#[derive(Clone, Copy, Debug, PartialEq, Eq, PartialOrd, Ord, Hash)]
 pub enum ThreeWay {
     No,
     Unknown,
@@ -33,19 +33,11 @@ impl Scale for ThreeWay {
     }
 
     fn meet(self, other: ThreeWay) -> ThreeWay {
-        match (self, other) {
-            (ThreeWay::No, _) | (_, ThreeWay::No) => ThreeWay::No,
-            (ThreeWay::Yes, ThreeWay::Yes) => ThreeWay::Yes,
-            _ => ThreeWay::Unknown,
-        }
+        self.min(other)
     }
 
     fn join(self, other: ThreeWay) -> ThreeWay {
-        match (self, other) {
-            (ThreeWay::Yes, _) | (_, ThreeWay::Yes) => ThreeWay::Yes,
-            (ThreeWay::No, ThreeWay::No) => ThreeWay::No,
-            _ => ThreeWay::Unknown,
-        }
+        self.max(other)
     }
 
     fn reading(code: i8) -> ThreeWay {

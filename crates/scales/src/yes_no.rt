@@ -1,11 +1,11 @@
 // The yes/no scale.
 ghost use Rattle.std.specs.Prelude.{◌≡◌};
-ghost use Rattle.scales.specs.YesNo.{yes_no, yes_no_laws, is_yes};
+ghost use Rattle.scales.specs.YesNo.{yes_no, yes_no_laws, is_yes, answer};
 
 use crate::scale::Scale;
 
 // The marks, rising.
-#[derive(Clone, Copy, Debug, PartialEq)]
+#[derive(Clone, Copy, Debug, PartialEq, Eq, PartialOrd, Ord, Hash)]
 pub enum YesNo {
     No,
     Yes,
@@ -15,7 +15,15 @@ impl YesNo {
     pub fn is_yes(self) -> bool
         ensures { result ≡ is_yes self }
     {
-        matches!(self, YesNo::Yes)
+        self == YesNo::Yes
+    }
+}
+
+impl From<bool> for YesNo {
+    ghost from_gives = { λ yes mark. mark ≡ answer yes };
+
+    fn from(yes: bool) -> YesNo {
+        if yes { YesNo::Yes } else { YesNo::No }
     }
 }
 
@@ -33,18 +41,18 @@ impl Scale for YesNo {
     }
 
     fn complement(self) -> YesNo {
-        if self.is_yes() { YesNo::No } else { YesNo::Yes }
+        YesNo::from(!self.is_yes())
     }
 
     fn meet(self, other: YesNo) -> YesNo {
-        if self.is_yes() { other } else { self }
+        self.min(other)
     }
 
     fn join(self, other: YesNo) -> YesNo {
-        if self.is_yes() { self } else { other }
+        self.max(other)
     }
 
     fn reading(code: i8) -> YesNo {
-        if code > 0 { YesNo::Yes } else { YesNo::No }
+        YesNo::from(code > 0)
     }
 }

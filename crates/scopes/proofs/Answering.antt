@@ -1,15 +1,14 @@
 -- What is answered of a row number and a state.
 use Rattle.std.proofs.Common.{◌≡◌, ℕ, zero, suc, ◌<◌, ◌≤◌, Bool, true, false, cond, List, [], ◌∷◌, length, get_or, Some, None, Option, sym, refl, ap, ◌∙◌, subst, arith, lt-ltb}
-use Rattle.std.proofs.lemmas.List.{get_or_past}
 use Rattle.std.proofs.lemmas.Bool.{and_parts}
 use Rattle.rows.specs.Kinds.{is_in, may_scope}
 use Rattle.rows.specs.Reach.{Operand, Reached, here, down}
-use Rattle.rows.specs.Rows.{blank, item_of}
+use Rattle.rows.specs.Rows.{blank}
 use Rattle.rows.specs.declared.row.Row.{Row}
 use Rattle.rows.specs.declared.kind.HalfUse.TheVariants.{Operand as OperandUse}
 use Rattle.rows.proofs.Halves.{half, half_use, in_use}
-use Rattle.rows.proofs.Items.{item_past}
-use Rattle.rows.proofs.Operands.{in_within, reached_low}
+use Rattle.rows.proofs.Operands.{reached_low}
+use Rattle.rows.proofs.Parents.{in_within}
 use Rattle.rows.proofs.Standing.{scoped}
 use Rattle.tables.specs.Lawful.{rows_fault, lawful_rows}
 use Rattle.tables.specs.declared.form.Form.TheVariants.{Rule}
@@ -30,11 +29,6 @@ use Rattle.scopes.specs.Ruled.{Ruled, ScopeRoot, all_may_scope}
 use Rattle.scopes.proofs.Rules.{operand_below}
 use Rattle.scopes.proofs.Evaluated.{operand_root}
 use Rattle.scopes.proofs.Scopes.{propositional_by}
-
--- there is no scope of a row that is not there
-pub no_row : (rows : List Row) (k : ℕ) (state : State) → None ≡ item_of rows k blank → None ≡ scope_answer rows k state
-no_row rows k state e =
-    sym (ap (λ (r : Row). cond (is_in r.kind) (Some (in_scope (formula_at rows r.right) state)) None) (get_or_past rows k blank (item_past rows k blank e)))
 
 module _ (rows : List Row) (ruled : Ruled rows) (k : ℕ) (in_row : is_in (get_or rows k blank).kind ≡ true) where
   -- the right half of an in row is the root of its scope

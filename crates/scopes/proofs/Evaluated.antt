@@ -1,5 +1,5 @@
 -- What a row of a scope is on a state, by its operands.
-use Rattle.std.proofs.Common.{◌≡◌, ℕ, ◌<◌, Bool, true, false, cond, not, ◌&&◌, ◌||◌, List, [], ◌∷◌, get_or, sym, refl, ap, ◌∙◌, subst, ap₂, arith}
+use Rattle.std.proofs.Common.{◌≡◌, ℕ, ◌<◌, Bool, true, not, ◌&&◌, ◌||◌, List, [], ◌∷◌, get_or, sym, refl, ap, ◌∙◌, subst, ap₂, arith}
 use Rattle.std.proofs.lemmas.Bool.{false≢true}
 use Rattle.rows.specs.Kinds.{may_scope}
 use Rattle.rows.specs.Reach.{Reached, here, down}
@@ -9,31 +9,14 @@ use Rattle.rows.specs.declared.kind.Kind.{Kind}
 use Rattle.rows.specs.declared.kind.Kind.TheVariants.{Top, Flag, Code, Not, And, Or, Next, Until, Always, Eventually, In}
 use Rattle.rows.specs.declared.row.Row.{Row}
 use Rattle.rows.proofs.Halves.{half, half_use, half_operand, named_half}
-use Rattle.scales.specs.YesNo.{yes_no, is_yes, opposite, both, either}
-use Rattle.scales.specs.declared.yes_no.YesNo.{YesNo}
-use Rattle.scales.specs.declared.yes_no.YesNo.TheVariants.{No, Yes}
+use Rattle.scales.specs.YesNo.{yes_no}
+use Rattle.scales.proofs.Marks.{is_yes_answer, is_yes_opposite, is_yes_both, is_yes_either}
 use Rattle.sessions.specs.States.{has_flag}
 use Rattle.sessions.specs.declared.state.State.{State}
 use Rattle.meaning.specs.Formulas.{formula_by, formula_at}
 use Rattle.meaning.specs.Meaning.{mark, in_scope}
 use Rattle.meaning.proofs.Formulas.{formula_row}
 use Rattle.scopes.specs.Ruled.{ScopeRoot}
-
-not_yes : (a : YesNo) → is_yes (opposite a) ≡ not (is_yes a)
-not_yes No = refl
-not_yes Yes = refl
-
-both_yes : (a b : YesNo) → is_yes (both a b) ≡ (is_yes a && is_yes b)
-both_yes No b = refl
-both_yes Yes b = refl
-
-either_yes : (a b : YesNo) → is_yes (either a b) ≡ (is_yes a || is_yes b)
-either_yes No b = refl
-either_yes Yes b = refl
-
-flag_yes : (b : Bool) → is_yes (cond b Yes No) ≡ b
-flag_yes true = refl
-flag_yes false = refl
 
 module _ (rows : List Row) (i : ℕ) (root : ScopeRoot rows i) (state : State) where
   abbrev row : Row
@@ -57,19 +40,19 @@ module _ (rows : List Row) (i : ℕ) (root : ScopeRoot rows i) (state : State) w
 
   pub flag_holds : row.kind ≡ Flag → in_scope (formula_at rows i) state ≡ has_flag row.left state
   unfolding mark
-  flag_holds is = by_kind is ∙ flag_yes (has_flag row.left state)
+  flag_holds is = by_kind is ∙ is_yes_answer (has_flag row.left state)
 
   pub not_holds : row.kind ≡ Not → in_scope (formula_at rows i) state ≡ not left_holds
   unfolding mark
-  not_holds is = by_kind is ∙ not_yes (mark yes_no (formula_at rows row.left) (state ∷ []))
+  not_holds is = by_kind is ∙ is_yes_opposite (mark yes_no (formula_at rows row.left) (state ∷ []))
 
   pub and_holds : row.kind ≡ And → in_scope (formula_at rows i) state ≡ (left_holds && right_holds)
   unfolding mark
-  and_holds is = by_kind is ∙ both_yes (mark yes_no (formula_at rows row.left) (state ∷ [])) (mark yes_no (formula_at rows row.right) (state ∷ []))
+  and_holds is = by_kind is ∙ is_yes_both (mark yes_no (formula_at rows row.left) (state ∷ [])) (mark yes_no (formula_at rows row.right) (state ∷ []))
 
   pub or_holds : row.kind ≡ Or → in_scope (formula_at rows i) state ≡ (left_holds || right_holds)
   unfolding mark
-  or_holds is = by_kind is ∙ either_yes (mark yes_no (formula_at rows row.left) (state ∷ [])) (mark yes_no (formula_at rows row.right) (state ∷ []))
+  or_holds is = by_kind is ∙ is_yes_either (mark yes_no (formula_at rows row.left) (state ∷ [])) (mark yes_no (formula_at rows row.right) (state ∷ []))
 
   -- what the code returns, where the numbers of the operands are l and r
   module _ (l r : ℕ) (is_left : l ≡ row.left) (is_right : r ≡ row.right) where

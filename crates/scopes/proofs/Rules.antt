@@ -1,6 +1,5 @@
 -- What is known of a lawful rule, row by row.
-use Rattle.std.proofs.Common.{◌≡◌, ℕ, ◌<◌, Bool, true, cond, not, ◌&&◌, List, length, get_or, Some, None, ap, ◌∙◌, arith}
-use Rattle.std.proofs.lemmas.List.FromFn.{get_or-map-range_with_len}
+use Rattle.std.proofs.Common.{refl, ◌≡◌, ℕ, ◌<◌, Bool, true, cond, not, ◌&&◌, List, length, get_or, Some, None, ap, ◌∙◌, arith}
 use Rattle.meaning.specs.Formulas.{formula_by, formula_at}
 use Rattle.refusals.specs.First.{then}
 use Rattle.refusals.proofs.First.{then_first, then_second, each_none}
@@ -20,12 +19,10 @@ use Rattle.tables.proofs.Sound.{none_is, fine_sizes}
 use Rattle.tables.proofs.Trees.{tree, flat}
 use Rattle.scopes.specs.Ruled.{Ruled}
 use Rattle.meaning.proofs.Formulas.{formula_row}
+use Rattle.rows.proofs.Walks.{home_at}
 use Rattle.rows.proofs.Halves.{half, half_use, half_operand, named_half}
-use Rattle.rows.proofs.Operands.{given, operand_home}
-
-home_at : (rows : List Row) (i : ℕ) → i < length rows → get_or (homes rows) i Outside ≡ home rows i
-unfolding homes
-home_at rows i within = get_or-map-range_with_len (home rows) 0 (length rows) i i Outside within (omega arith)
+use Rattle.rows.proofs.Operands.{operand_home}
+use Rattle.rows.proofs.Parents.{given}
 
 may : (kind : Kind) (scope : Bool) (f : TableFault) → cond (scope && not (may_scope kind)) (Some f) None ≡ None → scope ≡ true → may_scope kind ≡ true
 may kind scope f fine is = grind arith
@@ -46,7 +43,7 @@ module _ (flags codes : ℕ) (rows : List Row) (fine : lawful_rows Rule flags co
   ruled = record {
     tree = tree Rule flags codes rows rows_fine (then_first (one_use_fault rows) _ rule_fine);
     flat = flat rows kinds_fine;
-    scopes = λ i within scope. may (get_or rows i blank).kind (in_scope (get_or (homes rows) i Outside)) (ScopeKindFault i) (each_none (λ k. cond (in_scope (get_or (homes rows) k Outside) && not (may_scope (get_or rows k blank).kind)) (Some (ScopeKindFault k)) None) 0 (length rows) kinds_fine i (omega arith) (omega arith)) (ap in_scope (home_at rows i within) ∙ scope);
+    scopes = λ i within scope. may (get_or rows i blank).kind (in_scope (get_or (homes rows) i Outside)) (ScopeKindFault i) (each_none (λ k. cond (in_scope (get_or (homes rows) k Outside) && not (may_scope (get_or rows k blank).kind)) (Some (ScopeKindFault k)) None) 0 (length rows) kinds_fine i (omega arith) (omega arith)) (ap in_scope (home_at rows (homes rows) i refl within) ∙ scope);
     some = (fine_sizes Rule flags codes rows fine).0;
   }
 

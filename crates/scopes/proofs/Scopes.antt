@@ -13,7 +13,8 @@ use Rattle.rows.specs.declared.row.Row.{Row}
 use Rattle.tables.specs.Lawful.{lawful_rows, lawful_rule}
 use Rattle.tables.specs.declared.form.Form.TheVariants.{Rule}
 use Rattle.rows.proofs.Halves.{half, half_use, in_use}
-use Rattle.rows.proofs.Operands.{given_same, given_new, given_keeps_scope, last_outside}
+use Rattle.rows.proofs.Operands.{last_outside}
+use Rattle.rows.proofs.Parents.{given_same, given_new, given_keeps_scope}
 use Rattle.scopes.specs.Ruled.{Ruled}
 use Rattle.scopes.proofs.Rules.{ruled, operand_below, operand_stands, rule_formula}
 

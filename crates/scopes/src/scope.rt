@@ -20,7 +20,8 @@ pub struct Scope {
     ghost few: { length table.rows.items ≤ 64 },
 }
 
-// Whether the scope with the row of this number at its root is yes on the state alone. Operands have lower numbers.
+// Whether the scope with the row of this number at its root is yes on the state alone. Operands have lower numbers: the format of a
+// table names them so, and a scope is worked out on its rows as they stand.
 pub(crate) fn holds(rows: &[Row], number: usize, state: &State) -> bool
     requires { ScopeRoot rows.now number }
     ensures { result ≡ in_scope (formula_at rows.now number) state.now }

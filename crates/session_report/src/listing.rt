@@ -2,7 +2,6 @@
 ghost use Rattle.std.specs.Prelude.{◌≡◌, IfOk, string_bytes};
 ghost use Rattle.session_report.specs.Listing.{session_lines, listing as listing_of};
 
-use crate::state::state_line;
 use files::LONGEST;
 use report::refused_file_line;
 use sessions::{Session, SessionFault, Sheet, state_at};
@@ -13,22 +12,23 @@ pub fn session_listing<S: Session>(heap: Global, session: &S) -> Result<String, 
     ensures { IfOk result (λ s. string_bytes s ≡ session_lines (S.Session.states session.now)) }
 {
     let mut text = String::new(heap);
-    for i in 0..session.len() {
-        let state = state_at(session, i);
-        text.push_str(state_line(heap, i, &state)?.as_str())?;
+    for number in 0..session.len() {
+        let state = state_at(session, number);
+        writeln!(text, "{number} {state}")?;
     }
     Ok(text)
 }
 
-// What the file of these bytes has: a line for each state of the sheet, or the one line of a refused sheet.
+// What the file of these bytes has: a line for each state of the sheet, or the one line of a refused sheet. In the form of
+// `report::pack_listing`.
 pub fn sheet_listing(heap: Global, file: &[u8]) -> Result<String, AllocError>
     ensures { IfOk result (λ s. string_bytes s ≡ listing_of file.now) }
 {
     if file.len() > LONGEST {
-        return refused_file_line(heap, SessionFault::SheetLength.refusal());
+        return refused_file_line(heap, SessionFault::SheetLength.into());
     }
     match Sheet::check(file) {
         Ok(sheet) => session_listing(heap, &sheet),
-        Err(fault) => refused_file_line(heap, fault.refusal()),
+        Err(fault) => refused_file_line(heap, fault.into()),
     }
 }

@@ -1,5 +1,6 @@
 pub mod Faults
 pub mod Logs
+pub mod Printed
 pub mod Sheets
 pub mod States
 pub mod Told

@@ -4,7 +4,7 @@ ghost use Rattle.sessions.specs.Told.{told};
 
 use refusals::{Layer, Refusal};
 
-#[derive(Clone, Copy, Debug, PartialEq)]
+#[derive(Clone, Copy, Debug, PartialEq, Eq, Hash)]
 pub enum SessionFault {
     // The sheet has fewer than two bytes, or not as many as its number of states needs.
     SheetLength,
@@ -16,11 +16,11 @@ pub enum SessionFault {
     LogTick(usize),
 }
 
-impl SessionFault {
-    pub fn refusal(self) -> Refusal
-        ensures { result ≡ told self }
-    {
-        let (number, place) = match self {
+impl From<SessionFault> for Refusal {
+    ghost from_gives = { λ fault refusal. refusal ≡ told fault };
+
+    fn from(fault: SessionFault) -> Refusal {
+        let (number, place) = match fault {
             SessionFault::SheetLength => (14, 0),
             SessionFault::LogLengths => (15, 0),
             SessionFault::LogFlag(entry) => (16, entry),

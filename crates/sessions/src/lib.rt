@@ -4,6 +4,7 @@
 mod fault;
 mod log;
 mod memory;
+mod print;
 mod session;
 mod sheet;
 mod state;

@@ -1,13 +1,13 @@
 // A session told by a log of the states at which flags were switched.
-ghost use Rattle.std.specs.Prelude.{◌≡◌, ℕ, ◌-◌, ◌<◌, ◌≤◌, [], length, vec_len, vec_capacity, slice_index};
-ghost use Rattle.refusals.specs.Answers.{Answers, Checks};
-ghost use Rattle.refusals.specs.First.{first_from};
+ghost use Rattle.std.specs.Prelude.{◌≡◌, ℕ, ◌<◌, ◌≤◌, length, slice_index};
+ghost use Rattle.refusals.specs.Answers.{Answers};
 ghost use Rattle.sessions.specs.Faults.{flag_fault, tick_fault, log_fault};
 ghost use Rattle.sessions.specs.Logs.{Switched, Rising, log_states};
 
 use crate::fault::SessionFault;
 use crate::memory::LogMemory;
 use crate::session::Session;
+use refusals::refuse_first;
 
 // One word for each state, worked out when the log is made.
 #[derive(Drop)]
@@ -16,64 +16,58 @@ pub struct SwitchLog {
     ghost few: { length words.items ≤ 65535 },
 }
 
-// Whether all flags are below 32.
-fn check_flags(flags: &[u8]) -> Result<(), SessionFault>
-    ensures { Checks (first_from (flag_fault flags.now) 0 (length flags.now)) result }
+// What is wrong with the flag of an entry.
+fn flag_fault(flags: &[u8], entry: usize) -> Option<SessionFault>
+    requires { entry < length flags.now }
+    ensures { result ≡ flag_fault flags.now entry }
 {
-    for i in 0..flags.len() {
-        if flags[i] > 31 {
-            return Err(SessionFault::LogFlag(i));
-        }
-    }
-    Ok(())
+    (flags[entry] > 31).then_some(SessionFault::LogFlag(entry))
 }
 
 // What is wrong with the tick of an entry.
-fn tick_fault(count: u16, ticks: &[u16], i: usize) -> Option<SessionFault>
-    requires { i < length ticks.now }
-    ensures { result ≡ tick_fault count ticks.now i }
+fn tick_fault(count: u16, ticks: &[u16], entry: usize) -> Option<SessionFault>
+    requires { entry < length ticks.now }
+    ensures { result ≡ tick_fault count ticks.now entry }
 {
-    if i > 0 && ticks[i] < ticks[i - 1] || ticks[i] >= count {
-        return Some(SessionFault::LogTick(i));
-    }
-    None
+    let falls = entry > 0 && ticks[entry] < ticks[entry - 1];
+    (falls || ticks[entry] >= count).then_some(SessionFault::LogTick(entry))
 }
 
-// Whether the ticks never fall, and are below the number of states.
-fn check_ticks(count: u16, ticks: &[u16]) -> Result<(), SessionFault>
-    ensures { Checks (first_from (tick_fault count ticks.now) 0 (length ticks.now)) result }
+// How many entries, of which the ticks never fall, have this tick or a lower one.
+fn entries_upto(ticks: &[u16], position: u16) -> usize
+    requires { Rising ticks.now }
+    ensures bound { result ≤ length ticks.now }
+    ensures low { (k : ℕ) → k < result → slice_index ticks.now k ≤ position }
+    ensures high { (k : ℕ) → result ≤ k → k < length ticks.now → position < slice_index ticks.now k }
 {
-    for i in 0..ticks.len() {
-        if let Some(fault) = tick_fault(count, ticks, i) {
-            return Err(fault);
-        }
-    }
-    Ok(())
+    ticks.partition_point(|tick| *tick <= position)
 }
 
-// The word of each state, in an empty list that has room for them.
-fn fill(count: u16, ticks: &[u16], flags: &[u8], words: &mut Vec<u32>)
-    requires room { count ≤ vec_capacity words.old }
-    requires empty { (words.old.items ≡ []) × (vec_len words.old ≡ 0) }
+// The word of each state: that of the state before, with the flags of the entries at this tick turned.
+fn words(count: u16, ticks: &[u16], flags: &[u8], memory: LogMemory) -> Vec<u32>
     requires same { length ticks.now ≡ length flags.now }
     requires rising { Rising ticks.now }
     requires small { (k : ℕ) → k < length flags.now → slice_index flags.now k < 32 }
-    ensures len { length words.new.items ≡ count }
-    ensures told { Switched ticks.now flags.now (log_states words.new.items) }
+    ensures len { length result.items ≡ count }
+    ensures told { Switched ticks.now flags.now (log_states result.items) }
 {
+    let mut words = memory.into_list();
     let mut done = 0;
     let mut word: u32 = 0;
     for position in 0..count {
-        while done < ticks.len() && ticks[done] <= position {
-            word ^= 1 << flags[done];
-            done += 1;
+        let upto = entries_upto(ticks, position);
+        // No `fold`: its closure would have to be told that the flags are below 32.
+        for flag in &flags[done..upto] {
+            word ^= 1 << *flag;
         }
+        done = upto;
         words.push_reserved(word);
     }
+    words
 }
 
 impl SwitchLog {
-    // The log of this number of states whose entries are these ticks and flags.
+    // The log of this number of states whose entries are these ticks and flags. Two arrays: that they differ in length is a refusal.
     pub fn new(
         count: u16,
         ticks: &[u16],
@@ -85,10 +79,9 @@ impl SwitchLog {
         if ticks.len() != flags.len() {
             return Err(SessionFault::LogLengths);
         }
-        check_flags(flags)?;
-        check_ticks(count, ticks)?;
-        let LogMemory { mut words } = memory;
-        fill(count, ticks, flags, &mut words);
+        refuse_first(flags.len(), |entry| flag_fault(flags, entry))?;
+        refuse_first(ticks.len(), |entry| tick_fault(count, ticks, entry))?;
+        let words = words(count, ticks, flags, memory);
         Ok(SwitchLog { words })
     }
 }

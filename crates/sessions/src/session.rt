@@ -5,7 +5,8 @@ ghost use Rattle.sessions.specs.declared.state.State.{State as StateRecord};
 
 use crate::state::State;
 
-// A source of the states of one session, of which there are at most 65,535.
+// A source of the states of one session, of which there are at most 65,535. It is asked by position, so who goes through a session
+// goes over its positions.
 pub trait Session {
     ghost states: { Self → List StateRecord };
 

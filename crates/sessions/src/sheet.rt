@@ -8,7 +8,7 @@ use crate::fault::SessionFault;
 use crate::session::Session;
 use big_endian::{byte_at, long_at, word_at};
 
-#[derive(Clone, Copy)]
+#[derive(Clone, Copy, Debug, PartialEq, Eq, Hash)]
 pub struct Sheet<'a> {
     bytes: &'a [u8],
 }

@@ -3,7 +3,7 @@ ghost use Rattle.std.specs.Prelude.{◌≡◌};
 ghost use Rattle.sessions.specs.States.{has_flag, code_of};
 
 // A flag word, of which flag p is bit p, and four codes.
-#[derive(Clone, Copy)]
+#[derive(Clone, Copy, Debug, PartialEq, Eq, Hash)]
 pub struct State {
     pub flags: u32,
     pub codes: [i8; 4],

@@ -1,16 +1,10 @@
 // Lists the states of the sheet `session.sheet` in the working folder.
 #![tactic(auto)]
 
-use files::read_file;
+use files::print_listing;
 use session_report::sheet_listing;
 
-fn run(rt: &HostRuntime) -> anyhow::Result<()> {
-    let file = read_file(rt, "session.sheet")?;
-    let text = sheet_listing(rt.alloc(), file.as_slice())?;
-    print!(rt; "{text}")?;
-    Ok(())
-}
-
 fn main(rt: HostRuntime) -> anyhow::Result<()> {
-    run(&rt)
+    // A closure: the check does not take a function of another crate by its name here.
+    print_listing(&rt, "session.sheet", |heap, file| sheet_listing(heap, file))
 }

@@ -4,7 +4,7 @@ ghost use Rattle.sittings.specs.Told.{told};
 
 use refusals::{Layer, Refusal};
 
-#[derive(Clone, Copy, Debug, PartialEq)]
+#[derive(Clone, Copy, Debug, PartialEq, Eq, Hash)]
 pub enum SittingFault {
     // It has 1,024 states already.
     Full,
@@ -12,11 +12,11 @@ pub enum SittingFault {
     NoState,
 }
 
-impl SittingFault {
-    pub fn refusal(self) -> Refusal
-        ensures { result ≡ told self }
-    {
-        let (number, place) = match self {
+impl From<SittingFault> for Refusal {
+    ghost from_gives = { λ fault refusal. refusal ≡ told fault };
+
+    fn from(fault: SittingFault) -> Refusal {
+        let (number, place) = match fault {
             SittingFault::Full => (18, 1024),
             SittingFault::NoState => (19, 0),
         };

@@ -1,9 +1,8 @@
-// A sitting that is going on.
+// A sitting: the states of one learner, recorded one by one.
 ghost use Rattle.std.specs.Prelude.{◌≡◌, ◌≤◌, [], length, IfOk, vec_capacity};
 ghost use Rattle.refusals.specs.Answers.{Checks};
 ghost use Rattle.sittings.specs.Sittings.{record_fault, recorded, take_back_fault, taken_back};
 
-use crate::closed::ClosedSitting;
 use crate::fault::SittingFault;
 use crate::list::StateList;
 use sessions::{Session, State};
@@ -11,13 +10,24 @@ use std::alloc::{AllocError, Global};
 
 const MOST: usize = 1024;
 
+// The sitting is going on.
+#[derive(Clone, Copy, Debug, PartialEq, Eq, Hash)]
+pub struct Open;
+
+// It is over: it is only marked and read, and there is no call that records into it.
+#[derive(Clone, Copy, Debug, PartialEq, Eq, Hash)]
+pub struct Closed;
+
 // The memory for all states is taken at opening, so that no later call can run out of it.
-#[derive(Drop)]
-pub struct Sitting {
+#[derive(Debug, Drop)]
+pub struct Sitting<P = Open> {
     list: StateList,
+    phase: P,
     ghost few: { length list.states.items ≤ 1024 },
     ghost room: { 1024 ≤ vec_capacity list.states },
 }
+
+pub type ClosedSitting = Sitting<Closed>;
 
 impl Sitting {
     pub fn open(heap: Global) -> Result<Sitting, AllocError>
@@ -26,6 +36,7 @@ impl Sitting {
         let states = Vec::with_capacity(heap, MOST)?;
         Ok(Sitting {
             list: StateList { states },
+            phase: Open,
         })
     }
 
@@ -46,11 +57,7 @@ impl Sitting {
         ensures value { Checks (take_back_fault self.old.list.states.items) result }
         ensures after { self.new.list.states.items ≡ taken_back self.old.list.states.items }
     {
-        let count = self.list.states.len();
-        if count == 0 {
-            return Err(SittingFault::NoState);
-        }
-        self.list.states.truncate(count - 1);
+        self.list.states.pop().ok_or(SittingFault::NoState)?;
         Ok(())
     }
 
@@ -58,12 +65,15 @@ impl Sitting {
     pub fn close(self) -> ClosedSitting
         ensures { result.list.states.items ≡ self.list.states.items }
     {
-        let Sitting { list } = self;
-        ClosedSitting { list }
+        let Sitting { list, .. } = self;
+        Sitting {
+            list,
+            phase: Closed,
+        }
     }
 }
 
-impl Session for Sitting {
+impl<P> Session for Sitting<P> {
     ghost states = { λ sitting. sitting.list.states.items };
 
     fn len(&self) -> u16 {

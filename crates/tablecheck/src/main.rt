@@ -1,16 +1,10 @@
 // Shows the plain table `plain.table` in the working folder row by row.
 #![tactic(auto)]
 
-use files::read_file;
+use files::print_listing;
 use report::plain_listing;
 
-fn run(rt: &HostRuntime) -> anyhow::Result<()> {
-    let file = read_file(rt, "plain.table")?;
-    let text = plain_listing(rt.alloc(), file.as_slice())?;
-    print!(rt; "{text}")?;
-    Ok(())
-}
-
 fn main(rt: HostRuntime) -> anyhow::Result<()> {
-    run(&rt)
+    // A closure: the check does not take a function of another crate by its name here.
+    print_listing(&rt, "plain.table", |heap, file| plain_listing(heap, file))
 }

@@ -1,14 +1,11 @@
 -- Bytes laid over a buffer, piece after piece.
-use Rattle.std.proofs.Common.{◌≡◌, ℕ, ◌+◌, ◌*◌, ◌/◌, ◌%◌, ◌<◌, ◌≤◌, List, [], ◌∷◌, ◌++◌, map, length, take, drop, sym, refl, ap, ◌∙◌, append_assoc, zero-add, arith, length-append, take-append-drop}
+use Rattle.std.proofs.Common.{◌≡◌, ℕ, ◌+◌, ◌*◌, ◌/◌, ◌%◌, ◌<◌, ◌≤◌, List, [], ◌∷◌, ◌++◌, map, length, take, drop, sym, refl, ap, ◌∙◌, append_assoc, zero-add, arith, length-append}
 use Rattle.std.specs.List.{flat_map}
 use Rattle.std.proofs.lemmas.List.{take_at, drop_at, drop-drop, length-take-le, length-map}
 use Rattle.rows.specs.declared.row.Row.{Row}
 use Rattle.tables.specs.Format.{half_bytes, kind_number, body_bytes, table_bytes}
 use Rattle.tables.specs.Writing.{laid}
 use Rattle.tables.proofs.Written.{length_bytes}
-
-pub laid_none : (at : ℕ) (old : List ℕ) → laid at [] old ≡ old
-laid_none at old = take-append-drop at old
 
 module _ (at : ℕ) (xs ys old : List ℕ) (within : at ≤ length old) where
   front : List ℕ

@@ -1,10 +1,9 @@
 -- Rows that pass the checks form a tree, so that every home is what its name says.
 use Rattle.std.proofs.Common.{◌≡◌, ℕ, ◌-◌, ◌<◌, Bool, true, false, cond, not, ◌&&◌, ◌||◌, eqb, List, length, get_or, Some, None, refl, ap, ◌∙◌, ⊎_elim, arith, ltb-true, eqb-true}
-use Rattle.std.proofs.lemmas.List.FromFn.{get_or-map-range_with_len}
 use Rattle.std.proofs.lemmas.List.{get_or_past}
 use Rattle.std.proofs.lemmas.Bool.{cases_lt, false≢true}
 use Rattle.refusals.proofs.First.{then_second, each_none}
-use Rattle.rows.specs.Homes.{home, homes, in_scope}
+use Rattle.rows.specs.Homes.{homes, in_scope}
 use Rattle.rows.specs.Kinds.{left_use, right_use, is_in, may_scope, zero_kept, number_kept, order_kept, names_row}
 use Rattle.rows.specs.Reach.{Operand, Tree, Flat}
 use Rattle.rows.specs.Rows.{blank, left_is, right_is, uses}
@@ -13,8 +12,9 @@ use Rattle.rows.specs.declared.kind.Kind.{Kind}
 use Rattle.rows.specs.declared.kind.HalfUse.{HalfUse}
 use Rattle.rows.specs.declared.kind.HalfUse.TheVariants.{Zero, FlagNumber, CodeNumber, Operand as OperandUse}
 use Rattle.rows.specs.declared.row.Row.{Row}
+use Rattle.rows.proofs.Walks.{home_at}
 use Rattle.rows.proofs.Standing.{stands, scoped}
-use Rattle.tables.specs.Faults.{size_fault, row_fault, check_fault, one_use_fault, scope_kinds_fault}
+use Rattle.tables.specs.Faults.{size_fault, row_fault, use_fault, scope_kind_fault, one_use_fault, scope_kinds_fault}
 use Rattle.tables.specs.Format.{knows, rows_of, stated_flags, stated_codes}
 use Rattle.tables.specs.Lawful.{rows_fault}
 use Rattle.tables.specs.Places.{Places}
@@ -22,7 +22,6 @@ use Rattle.tables.specs.declared.form.Form.{Form}
 use Rattle.tables.specs.declared.form.Form.TheVariants.{Rule}
 use Rattle.tables.specs.declared.fault.TableFault.{TableFault}
 use Rattle.tables.specs.declared.fault.TableFault.TheVariants.{UnknownKind, HalfNotZero, NumberNotUsed, OperandNotBelow, NotOneUse, ScopeKind as ScopeKindFault}
-use Rattle.tables.specs.declared.check.RuleCheck.TheVariants.{OneUse, ScopeKind}
 use Rattle.tables.proofs.Sound.{table_lawful}
 
 -- a half that names row i, and keeps the order, has i below its row
@@ -67,12 +66,8 @@ module _ (form : Form) (flags codes : ℕ) (rows : List Row) (fine : rows_fault 
   pub tree : Tree rows
   tree = record {
     below = tree_below form flags codes rows fine;
-    once = λ i next. eqb-true (uses rows i) 1 (one_use (eqb (uses rows i) 1) (NotOneUse i) (each_none (check_fault OneUse rows (homes rows)) 0 (length rows - 1) used i (omega arith) (omega arith)));
+    once = λ i next. eqb-true (uses rows i) 1 (one_use (eqb (uses rows i) 1) (NotOneUse i) (each_none (use_fault rows) 0 (length rows - 1) used i (omega arith) (omega arith)));
   }
-
-home_at : (rows : List Row) (i : ℕ) → i < length rows → get_or (homes rows) i Outside ≡ home rows i
-unfolding homes
-home_at rows i within = get_or-map-range_with_len (home rows) 0 (length rows) i i Outside within (omega arith)
 
 -- an in row may not stand in a scope
 not_both : (kind : Kind) (scope : Bool) (f : TableFault) → cond (scope && not (may_scope kind)) (Some f) None ≡ None → is_in kind ≡ true → scope ≡ true → ⊥
@@ -80,7 +75,7 @@ not_both kind scope f fine in_row is = let z : ◌≡◌ {A = ℕ} 0 1 = grind a
 
 pub flat : (rows : List Row) → scope_kinds_fault rows ≡ None → Flat rows
 flat rows kinds i within in_row scope =
-    not_both (get_or rows i blank).kind (in_scope (get_or (homes rows) i Outside)) (ScopeKindFault i) (each_none (check_fault ScopeKind rows (homes rows)) 0 (length rows) kinds i (omega arith) (omega arith)) in_row (ap in_scope (home_at rows i within) ∙ scope)
+    not_both (get_or rows i blank).kind (in_scope (get_or (homes rows) i Outside)) (ScopeKindFault i) (each_none (scope_kind_fault rows (homes rows)) 0 (length rows) kinds i (omega arith) (omega arith)) in_row (ap in_scope (home_at rows (homes rows) i refl within) ∙ scope)
 
 pub places : (bytes : List ℕ) → Places bytes
 places bytes i within fine used =

@@ -106,10 +106,6 @@ rows_back rows =
     (λ i below. let within : i < length rows = omega (arith, length-map-range_with_len row 0 (length rows)) in
     get_or-map-range_with_len row 0 (length rows) i i blank within (omega arith) ∙ row_back rows i within)
 
-pub stated_back : (flags codes : ℕ) (rows : List Row) → stated_rows (table_bytes flags codes rows) ≡ length rows
-unfolding table_bytes
-stated_back flags codes rows = word_again (length rows)
-
 pub rows_of_back : (flags codes : ℕ) (rows : List Row) → rows_of (table_bytes flags codes rows) ≡ rows
 unfolding table_bytes
 rows_of_back flags codes rows = ap (rows_in (body_bytes rows)) (word_again (length rows)) ∙ rows_back rows

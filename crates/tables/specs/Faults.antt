@@ -11,8 +11,6 @@ use Rattle.rows.specs.declared.home.Home.TheVariants.{Outside}
 use Rattle.tables.specs.Format.{limit, knows, stated_rows, stated_flags, stated_codes, left_at, right_at, rows_of}
 use Rattle.tables.specs.declared.form.Form.{Form}
 use Rattle.tables.specs.declared.form.Form.TheVariants.{Rule, Plain}
-use Rattle.tables.specs.declared.check.RuleCheck.{RuleCheck}
-use Rattle.tables.specs.declared.check.RuleCheck.TheVariants.{OneUse, ScopeKind as ScopeKindCheck, ScopeSize as ScopeSizeCheck}
 use Rattle.tables.specs.declared.fault.TableFault.{TableFault}
 use Rattle.tables.specs.declared.fault.TableFault.TheVariants.{Short, RowCount, FlagsUsed, CodesUsed, Length, UnknownKind, HalfNotZero, NumberNotUsed, OperandNotBelow, NotOneUse, ScopeKind, ScopeSize}
 
@@ -60,21 +58,24 @@ table_fault form bytes =
 
 -- What only a rule can have, at row i: below the last row, it is not an operand exactly once; it stands in a scope, and its
 -- kind may not; it is an in row, and its scope has more than 64 rows.
-abbrev pub check_fault : RuleCheck → List Row → List Home → ℕ → Option TableFault
-check_fault OneUse rows hs i = cond (uses rows i == 1) None (Some (NotOneUse i))
-check_fault ScopeKindCheck rows hs i =
+abbrev pub use_fault : List Row → ℕ → Option TableFault
+use_fault rows i = cond (uses rows i == 1) None (Some (NotOneUse i))
+
+abbrev pub scope_kind_fault : List Row → List Home → ℕ → Option TableFault
+scope_kind_fault rows hs i =
     cond (in_scope (slice_index_or hs i Outside) && not (may_scope (get_or rows i blank).kind)) (Some (ScopeKind i)) None
-check_fault ScopeSizeCheck rows hs i =
-    cond (is_in (get_or rows i blank).kind && nat_lt 64 (scope_size i hs)) (Some (ScopeSize i)) None
+
+abbrev pub scope_size_fault : List Row → List Home → ℕ → Option TableFault
+scope_size_fault rows hs i = cond (is_in (get_or rows i blank).kind && nat_lt 64 (scope_size i hs)) (Some (ScopeSize i)) None
 
 abbrev pub one_use_fault : List Row → Option TableFault
-one_use_fault rows = first_from (check_fault OneUse rows (homes rows)) 0 (length rows - 1)
+one_use_fault rows = first_from (use_fault rows) 0 (length rows - 1)
 
 abbrev pub scope_kinds_fault : List Row → Option TableFault
-scope_kinds_fault rows = first_from (check_fault ScopeKindCheck rows (homes rows)) 0 (length rows)
+scope_kinds_fault rows = first_from (scope_kind_fault rows (homes rows)) 0 (length rows)
 
 abbrev pub scope_sizes_fault : List Row → Option TableFault
-scope_sizes_fault rows = first_from (check_fault ScopeSizeCheck rows (homes rows)) 0 (length rows)
+scope_sizes_fault rows = first_from (scope_size_fault rows (homes rows)) 0 (length rows)
 
 -- what only a rule can have
 unfoldable pub rule_fault : List Row → Option TableFault

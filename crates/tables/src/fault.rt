@@ -4,7 +4,7 @@ ghost use Rattle.tables.specs.Told.{told};
 
 use refusals::{Layer, Refusal};
 
-#[derive(Clone, Copy, Debug, PartialEq)]
+#[derive(Clone, Copy, Debug, PartialEq, Eq, Hash)]
 pub enum TableFault {
     // Fewer than four bytes.
     Short,
@@ -34,11 +34,11 @@ pub enum TableFault {
     BufferShort(usize),
 }
 
-impl TableFault {
-    pub fn refusal(self) -> Refusal
-        ensures { result ≡ told self }
-    {
-        let (number, place) = match self {
+impl From<TableFault> for Refusal {
+    ghost from_gives = { λ fault refusal. refusal ≡ told fault };
+
+    fn from(fault: TableFault) -> Refusal {
+        let (number, place) = match fault {
             TableFault::Short => (1, 0),
             TableFault::RowCount => (2, 0),
             TableFault::FlagsUsed => (3, 2),

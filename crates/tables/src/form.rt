@@ -4,7 +4,7 @@ ghost use Rattle.tables.specs.Format.{limit, knows};
 
 use rows::Kind;
 
-#[derive(Clone, Copy)]
+#[derive(Clone, Copy, Debug, PartialEq, Eq, Hash)]
 pub enum Form {
     Rule,
     Plain,

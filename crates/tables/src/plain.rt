@@ -12,7 +12,6 @@ use crate::form::Form;
 use crate::memory::PlainMemory;
 use crate::read::read_table;
 use crate::table::Table;
-use crate::write::write_table;
 
 #[derive(Drop)]
 pub struct PlainTable {
@@ -26,8 +25,7 @@ impl PlainTable {
     pub fn read(bytes: &[u8], memory: PlainMemory) -> Result<PlainTable, TableFault>
         ensures { Answers (plain_bytes_fault bytes.now) result (λ plain. Reads bytes.now plain.table × (bytes_of plain.table ≡ bytes.now)) }
     {
-        let PlainMemory { rows } = memory;
-        let table = read_table(Form::Plain, bytes, rows)?;
+        let table = read_table(Form::Plain, bytes, memory)?;
         Ok(PlainTable { table })
     }
 
@@ -42,7 +40,7 @@ impl PlainTable {
     pub fn written_len(&self) -> usize
         ensures { result ≡ needed self.now.table }
     {
-        4 + 5 * self.table.len()
+        self.table.written_len()
     }
 
     // Writes its bytes to the start of a buffer, and tells their number.
@@ -50,12 +48,7 @@ impl PlainTable {
         ensures value { Answers (buffer_fault (needed self.now.table) buffer.old) result (λ n. (n ≡ needed self.now.table) × Both plain_bytes_fault self.now.table) }
         ensures after { buffer.new ≡ written (needed self.now.table) (bytes_of self.now.table) buffer.old }
     {
-        let needed = self.written_len();
-        if buffer.len() < needed {
-            return Err(TableFault::BufferShort(needed));
-        }
-        write_table(&self.table, buffer);
-        Ok(needed)
+        self.table.write(buffer)
     }
 
     // Writes its bytes to the start of a buffer, and reads them back.

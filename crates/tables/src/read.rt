@@ -1,31 +1,33 @@
 // Reading what a rule and a plain table have in common.
-ghost use Rattle.std.specs.Prelude.{◌≡◌, ◌+◌, ◌*◌, ◌<◌, ◌≤◌, true, length, vec_len, vec_capacity};
+ghost use Rattle.std.specs.Prelude.{◌≡◌, ◌+◌, ◌*◌, ◌<◌, ◌≤◌, true, length};
 ghost use Rattle.refusals.specs.Answers.{Answers, Checks};
 ghost use Rattle.refusals.specs.First.{first_from};
 ghost use Rattle.tables.specs.Faults.{size_fault, length_fault, row_fault, fault_at, table_fault};
 ghost use Rattle.tables.specs.Reading.{Reads, bytes_of};
 ghost use Rattle.tables.specs.Format.{limit, row_at, rows_in};
 ghost use Rattle.tables.specs.Lawful.{lawful_rows};
-ghost use Rattle.tables.specs.Memory.{Empty};
 
 use crate::fault::TableFault;
 use crate::form::Form;
 use crate::table::Table;
+use big_endian::word_at;
+use reserved::Reserved;
 use rows::{Kind, Row};
 
-// The four size bytes of a table.
-#[derive(Clone, Copy)]
-pub struct Sizes {
+// The form of a table, and its four size bytes.
+#[derive(Clone, Copy, Debug, PartialEq, Eq, Hash)]
+pub struct Head {
+    pub form: Form,
     pub rows: usize,
     pub flags: u8,
     pub codes: u8,
 }
 
-impl Sizes {
-    fn check(self, form: Form) -> Result<(), TableFault>
-        ensures { Checks (size_fault form self.rows self.flags self.codes) result }
+impl Head {
+    fn check(self) -> Result<(), TableFault>
+        ensures { Checks (size_fault self.form self.rows self.flags self.codes) result }
     {
-        if self.rows == 0 || self.rows > form.limit() {
+        if self.rows == 0 || self.rows > self.form.limit() {
             return Err(TableFault::RowCount);
         }
         if self.flags > 32 {
@@ -47,76 +49,81 @@ impl Sizes {
         Ok(())
     }
 
-    fn check_row(self, form: Form, i: usize, row: Row) -> Result<(), TableFault>
-        ensures { Checks (row_fault form self.flags self.codes i row) result }
+    fn check_row(self, i: usize, row: Row) -> Result<(), TableFault>
+        ensures { Checks (row_fault self.form self.flags self.codes i row) result }
     {
-        let left = row.kind.left_use();
-        let right = row.kind.right_use();
-        if !form.knows(row.kind) {
+        let (left, right) = row.halves();
+        if !self.form.knows(row.kind) {
             return Err(TableFault::UnknownKind(i));
         }
-        if !(left.keeps_zero(row.left) && right.keeps_zero(row.right)) {
+        if !(left.keeps_zero() && right.keeps_zero()) {
             return Err(TableFault::HalfNotZero(i));
         }
-        if !(left.keeps_number(row.left, self.flags, self.codes)
-            && right.keeps_number(row.right, self.flags, self.codes))
+        if !(left.keeps_number(self.flags, self.codes)
+            && right.keeps_number(self.flags, self.codes))
         {
             return Err(TableFault::NumberNotUsed(i));
         }
-        if !(left.keeps_order(row.left, i) && right.keeps_order(row.right, i)) {
+        if !(left.keeps_order(i) && right.keeps_order(i)) {
             return Err(TableFault::OperandNotBelow(i));
         }
         Ok(())
     }
-}
 
-// Row i in the bytes after the sizes.
-fn read_row(form: Form, sizes: Sizes, rest: &[u8], i: usize) -> Result<Row, TableFault>
-    requires { (i < sizes.rows) × (length rest.now ≡ 5 * sizes.rows) }
-    ensures { Answers (fault_at form sizes.rows sizes.flags sizes.codes rest.now i) result (λ row. row ≡ row_at rest.now sizes.rows i) }
-{
-    let Some(kind) = Kind::from_number(rest[i]) else {
-        return Err(TableFault::UnknownKind(i));
-    };
-    let at = sizes.rows + 4 * i;
-    let left = u16::from_be_bytes([rest[at], rest[at + 1]]);
-    let right = u16::from_be_bytes([rest[at + 2], rest[at + 3]]);
-    let row = Row { kind, left, right };
-    sizes.check_row(form, i, row)?;
-    Ok(row)
-}
-
-// All rows in the bytes after the sizes, put into an empty list that has room for them.
-fn read_rows(form: Form, sizes: Sizes, rest: &[u8], rows: &mut Vec<Row>) -> Result<(), TableFault>
-    requires room { (sizes.rows ≤ vec_capacity rows.old) × (Empty rows.old) }
-    requires sized { length rest.now ≡ 5 * sizes.rows }
-    ensures { Answers (first_from (fault_at form sizes.rows sizes.flags sizes.codes rest.now) 0 sizes.rows) result (λ _. rows.new.items ≡ rows_in rest.now sizes.rows) }
-{
-    for i in 0..sizes.rows {
-        rows.push_reserved(read_row(form, sizes, rest, i)?);
+    // Row i in the bytes after the sizes.
+    fn read_row(self, rest: &[u8], i: usize) -> Result<Row, TableFault>
+        requires { (i < self.rows) × (length rest.now ≡ 5 * self.rows) }
+        ensures { Answers (fault_at self.form self.rows self.flags self.codes rest.now i) result (λ row. row ≡ row_at rest.now self.rows i) }
+    {
+        let kind = Kind::try_from(rest[i]).map_err(|_| TableFault::UnknownKind(i))?;
+        let at = self.rows + 4 * i;
+        let left = word_at(rest, at);
+        let right = word_at(rest, at + 2);
+        let row = Row { kind, left, right };
+        self.check_row(i, row)?;
+        Ok(row)
     }
-    Ok(())
+
+    // All rows in the bytes after the sizes.
+    fn read_rows<const N: usize>(
+        self,
+        rest: &[u8],
+        memory: Reserved<Row, N>,
+    ) -> Result<Vec<Row>, TableFault>
+        requires room { self.rows ≤ N }
+        requires sized { length rest.now ≡ 5 * self.rows }
+        ensures { Answers (first_from (fault_at self.form self.rows self.flags self.codes rest.now) 0 self.rows) result (λ rows. rows.items ≡ rows_in rest.now self.rows) }
+    {
+        let mut rows = memory.into_list();
+        // By number, and not over the bytes: a row's bytes stand at two places.
+        for i in 0..self.rows {
+            rows.push_reserved(self.read_row(rest, i)?);
+        }
+        Ok(rows)
+    }
 }
 
-// The table that these bytes hold, its rows put into an empty list that has room for them.
-pub(crate) fn read_table(form: Form, bytes: &[u8], mut rows: Vec<Row>) -> Result<Table, TableFault>
-    requires { (limit form ≤ vec_capacity rows) × (Empty rows) }
+// The table of this form that these bytes hold.
+pub(crate) fn read_table<const N: usize>(
+    form: Form,
+    bytes: &[u8],
+    memory: Reserved<Row, N>,
+) -> Result<Table, TableFault>
+    requires { limit form ≤ N }
     ensures { Answers (table_fault form bytes.now) result (λ t. Reads bytes.now t × (bytes_of t ≡ bytes.now) × (lawful_rows form t.flags t.codes t.rows.items ≡ true) × (length t.rows.items ≤ limit form)) }
 {
     let [high, low, flags, codes, rest @ ..] = bytes else {
         return Err(TableFault::Short);
     };
-    let sizes = Sizes {
+    let (flags, codes) = (*flags, *codes);
+    let head = Head {
+        form,
         rows: usize::from(u16::from_be_bytes([*high, *low])),
-        flags: *flags,
-        codes: *codes,
+        flags,
+        codes,
     };
-    sizes.check(form)?;
-    sizes.check_length(rest.len())?;
-    read_rows(form, sizes, rest, &mut rows)?;
-    Ok(Table {
-        flags: sizes.flags,
-        codes: sizes.codes,
-        rows,
-    })
+    head.check()?;
+    head.check_length(rest.len())?;
+    let rows = head.read_rows(rest, memory)?;
+    Ok(Table { flags, codes, rows })
 }

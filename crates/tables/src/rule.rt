@@ -1,12 +1,11 @@
 // A rule: a lawful table that may have in rows.
-ghost use Rattle.std.specs.Prelude.{◌≡◌, ◌≤◌, true, length, vec_capacity};
+ghost use Rattle.std.specs.Prelude.{◌≡◌, ◌≤◌, true, length};
 ghost use Rattle.rows.specs.Homes.{homes as homes_of};
 ghost use Rattle.rows.specs.Rows.{item_of};
 ghost use Rattle.rows.specs.declared.home.Home.TheVariants.{Outside};
 ghost use Rattle.refusals.specs.Answers.{Answers};
 ghost use Rattle.tables.specs.Faults.{rule_fault, rule_bytes_fault};
 ghost use Rattle.tables.specs.Lawful.{lawful_rows, lawful_rule};
-ghost use Rattle.tables.specs.Memory.{Empty};
 ghost use Rattle.tables.specs.Places.{Places};
 ghost use Rattle.tables.specs.declared.form.Form.TheVariants.{Rule as RuleForm};
 ghost use Rattle.tables.specs.Reading.{Reads, Both, bytes_of, needed};
@@ -19,13 +18,13 @@ use crate::homes::find_homes;
 use crate::memory::RuleMemory;
 use crate::read::read_table;
 use crate::table::Table;
-use crate::write::write_table;
+use reserved::Reserved;
 use rows::Home;
 
 #[derive(Drop)]
 pub struct Rule {
     pub table: Table,
-    // Where each row stands.
+    // Where each row stands. Beside the rows, and not in one list with them: plain tables have the same inner table, and no homes.
     pub homes: Vec<Home>,
     ghost lawful: { lawful_rows RuleForm table.flags table.codes table.rows.items ≡ true },
     ghost checked: { lawful_rule table.rows.items ≡ true },
@@ -45,13 +44,15 @@ impl Rule {
     }
 
     // The rule that this table is, whose rows are lawful one by one.
-    fn from_table(table: Table, mut homes: Vec<Home>) -> Result<Rule, TableFault>
+    fn from_table<const N: usize>(
+        table: Table,
+        memory: Reserved<Home, N>,
+    ) -> Result<Rule, TableFault>
         requires fine { lawful_rows RuleForm table.flags table.codes table.rows.items ≡ true }
-        requires empty { Empty homes }
-        requires room { 1024 ≤ vec_capacity homes }
+        requires room { 1024 ≤ N }
         ensures { Answers (rule_fault table.rows.items) result (λ rule. rule.table ≡ table) }
     {
-        find_homes(table.rows.as_slice(), &mut homes);
+        let homes = find_homes(table.rows.as_slice(), memory);
         check_rule(table.rows.as_slice(), homes.as_slice())?;
         Ok(Rule { table, homes })
     }
@@ -74,7 +75,7 @@ impl Rule {
     pub fn written_len(&self) -> usize
         ensures { result ≡ needed self.now.table }
     {
-        4 + 5 * self.table.len()
+        self.table.written_len()
     }
 
     // Writes its bytes to the start of a buffer, and tells their number.
@@ -82,11 +83,6 @@ impl Rule {
         ensures value { Answers (buffer_fault (needed self.now.table) buffer.old) result (λ n. (n ≡ needed self.now.table) × Both rule_bytes_fault self.now.table) }
         ensures after { buffer.new ≡ written (needed self.now.table) (bytes_of self.now.table) buffer.old }
     {
-        let needed = self.written_len();
-        if buffer.len() < needed {
-            return Err(TableFault::BufferShort(needed));
-        }
-        write_table(&self.table, buffer);
-        Ok(needed)
+        self.table.write(buffer)
     }
 }

@@ -1,10 +1,12 @@
 -- The states at picked positions.
-use Rattle.std.proofs.Common.{◌≡◌, ℕ, ◌+◌, ◌<◌, ◌≤◌, Bool, true, false, cond, List, [], ◌∷◌, ◌++◌, length, get_or, take, ℤ, pos, filter, sym, ap, ◌∙◌, append-nil, arith}
+use Rattle.std.proofs.Common.{◌≡◌, ℕ, ◌+◌, ◌<◌, ◌≤◌, Bool, true, false, cond, List, [], ◌∷◌, ◌++◌, length, get_or, take, ℤ, pos, Some, None, Option, MatchOption, filter, sym, ap, ◌∙◌, append-nil, arith}
 use Rattle.std.proofs.lemmas.List.Elements.{filter_more}
 use Rattle.std.proofs.lemmas.List.{length-map, map-append, get_or-map}
-use Rattle.sessions.specs.States.{no_state, flags_at, code_of, code_at}
+use Rattle.rows.specs.Rows.{item_of}
+use Rattle.rows.proofs.Items.{item_there, item_past}
+use Rattle.sessions.specs.States.{no_state, code_of, code_at}
 use Rattle.sessions.specs.declared.state.State.{State}
-use Rattle.sessions.proofs.Positions.{flags_beyond, code_beyond}
+use Rattle.sessions.proofs.Positions.{code_beyond}
 use Rattle.thinning.specs.Thinned.{states_at}
 
 module _ (w : List State) (p : State → Bool) where
@@ -31,14 +33,9 @@ module _ (w : List State) (positions : List ℕ) (i : ℕ) where
   past : length positions ≤ i → length (states_at w positions) ≤ i
   past end = omega (arith, length-map positions (λ k. get_or w k no_state))
 
-  pub flags_here : {k word : ℕ} → i < length positions → k ≡ get_or positions i 0 → word ≡ flags_at w k → word ≡ flags_at (states_at w positions) i
-  flags_here within at told = told ∙ ap (flags_at w) at ∙ sym (ap (λ (s : State). s.flags) (here within))
-
-  pub flags_past : length positions ≤ i → flags_at (states_at w positions) i ≡ 0
-  flags_past end = flags_beyond (states_at w positions) i (past end)
-
-  pub code_here : (number : ℕ) {k : ℕ} {z : ℤ} → i < length positions → k ≡ get_or positions i 0 → z ≡ code_at w k number → z ≡ code_at (states_at w positions) i number
+  code_here : (number : ℕ) {k : ℕ} {z : ℤ} → i < length positions → k ≡ get_or positions i 0 → z ≡ code_at w k number → z ≡ code_at (states_at w positions) i number
   code_here number within at told = told ∙ ap (λ n. code_at w n number) at ∙ sym (ap (code_of number) (here within))
 
-  pub code_past : (number : ℕ) → length positions ≤ i → code_at (states_at w positions) i number ≡ pos 0
-  code_past number end = code_beyond (states_at w positions) i (past end) number
+  pub code_told : (number : ℕ) (below : Option ℕ) {z : ℤ} → below ≡ item_of positions i 0 → MatchOption below (z ≡ pos 0) (λ k. z ≡ code_at w k number) → z ≡ code_at (states_at w positions) i number
+  code_told number None is told = told ∙ sym (code_beyond (states_at w positions) i (past (item_past positions i 0 is)) number)
+  code_told number (Some k) is told = let at = item_there positions i 0 k is in code_here number at.0 at.1 told

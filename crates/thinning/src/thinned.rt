@@ -1,5 +1,5 @@
 // A session source over another: its states are those below that are in a scope.
-ghost use Rattle.std.specs.Prelude.{◌≡◌, ◌≤◌, [], length, vec_len, vec_capacity};
+ghost use Rattle.std.specs.Prelude.{◌≡◌, ◌≤◌, length};
 ghost use Rattle.rows.specs.Rows.{item_of};
 ghost use Rattle.meaning.specs.Meaning.{thinned};
 ghost use Rattle.scopes.specs.Answered.{whole};
@@ -17,19 +17,19 @@ pub struct Thinned<'a, S> {
     ghost few: { length positions.items ≤ 65535 },
 }
 
-// The positions of the states that are in scope, in an empty list that has room for them.
-fn find<S: Session>(session: &S, scope: &Scope, positions: &mut Vec<u16>)
-    requires room { 65535 ≤ vec_capacity positions.old }
-    requires empty { (positions.old.items ≡ []) × (vec_len positions.old ≡ 0) }
-    ensures states { states_at (S.Session.states session.now) positions.new.items ≡ thinned (whole scope.now.table.rows.items) (S.Session.states session.now) }
-    ensures few { length positions.new.items ≤ 65535 }
+// The positions of the states that are in scope. A filtered range would hold the same test in a closure, and be no plainer.
+fn find<S: Session>(session: &S, scope: &Scope, memory: ThinnedMemory) -> Vec<u16>
+    ensures states { states_at (S.Session.states session.now) result.items ≡ thinned (whole scope.now.table.rows.items) (S.Session.states session.now) }
+    ensures few { length result.items ≤ 65535 }
 {
-    for i in 0..session.len() {
-        let kept = scope.contains(&state_at(session, i));
+    let mut positions = memory.into_list();
+    for position in 0..session.len() {
+        let kept = scope.contains(&state_at(session, position));
         if kept {
-            positions.push_reserved(i);
+            positions.push_reserved(position);
         }
     }
+    positions
 }
 
 impl<'a, S: Session> Thinned<'a, S> {
@@ -37,8 +37,7 @@ impl<'a, S: Session> Thinned<'a, S> {
         ensures below { result.session.now ≡ session.now }
         ensures states { states_at (S.Session.states session.now) result.positions.items ≡ thinned (whole scope.now.table.rows.items) (S.Session.states session.now) }
     {
-        let ThinnedMemory { mut positions } = memory;
-        find(session, scope, &mut positions);
+        let positions = find(session, scope, memory);
         Thinned { session, positions }
     }
 
@@ -58,16 +57,12 @@ impl<'a, S: Session> Session for Thinned<'a, S> {
     }
 
     fn flags(&self, position: u16) -> u32 {
-        match self.below(position) {
-            Some(below) => self.session.flags(below),
-            None => 0,
-        }
+        self.below(position)
+            .map_or(0, |below| self.session.flags(below))
     }
 
     fn code(&self, position: u16, number: u16) -> i8 {
-        match self.below(position) {
-            Some(below) => self.session.code(below, number),
-            None => 0,
-        }
+        self.below(position)
+            .map_or(0, |below| self.session.code(below, number))
     }
 }

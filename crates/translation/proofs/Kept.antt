@@ -17,7 +17,8 @@ use Rattle.rows.specs.declared.row.Row.{Row}
 use Rattle.translation.specs.Translation.{Draft, place_of, moved, two_operands, body_rows, copied, scope_step, gate_at, gate_step, passed_on, in_body, write_step, empty_draft, after_scopes, after_gates, after_rows}
 use Rattle.rows.proofs.Halves.{half, half_use, in_use}
 use Rattle.translation.proofs.Loops.{rising_keeps, falling_keeps}
-use Rattle.rows.proofs.Operands.{given_new, given_keeps_scope, body_of, in_within}
+use Rattle.rows.proofs.Operands.{body_of}
+use Rattle.rows.proofs.Parents.{given_new, given_keeps_scope, in_within}
 use Rattle.scopes.specs.Ruled.{Ruled}
 use Rattle.scopes.proofs.Rules.{operand_below, operand_stands, rule_formula}
 use Rattle.translation.proofs.Shows.{Shows, Grown, grown, Ends, shows_two, shows_one, ends_moved, ends_body}

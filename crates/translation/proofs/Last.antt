@@ -13,7 +13,8 @@ use Rattle.translation.specs.Translation.{Draft, place_of, moved, body_rows, wro
 use Rattle.rows.proofs.Halves.{half_is, in_use}
 use Rattle.translation.proofs.Kept.{Kept, RowsBelow, Gates, outside, write_keeps, gates_kept}
 use Rattle.translation.proofs.Loops.{rising_keeps}
-use Rattle.rows.proofs.Operands.{given_new, given_keeps_scope, operand_home, parent_of, last_outside}
+use Rattle.rows.proofs.Operands.{operand_home, parent_of, last_outside}
+use Rattle.rows.proofs.Parents.{given_new, given_keeps_scope}
 use Rattle.scopes.specs.Ruled.{Ruled}
 use Rattle.scopes.proofs.Rules.{operand_below, operand_stands}
 

@@ -14,7 +14,8 @@ use Rattle.rows.specs.declared.kind.Kind.{Kind}
 use Rattle.rows.specs.declared.kind.Kind.TheVariants.{Top, Flag, Code, Not, And, Or, Next, Until, Always, Eventually, In}
 use Rattle.rows.specs.declared.row.Row.{Row}
 use Rattle.rows.proofs.Halves.{half, half_use, in_use}
-use Rattle.rows.proofs.Operands.{given_same, given_new, body_of}
+use Rattle.rows.proofs.Operands.{body_of}
+use Rattle.rows.proofs.Parents.{given_same, given_new}
 use Rattle.scopes.specs.Ruled.{Ruled}
 use Rattle.scopes.proofs.Rules.{operand_stands, rule_formula}
 

@@ -7,7 +7,8 @@ ghost use Rattle.translation.specs.Translation.{body_rows, translated};
 
 use rows::Kind;
 
-// How many rows are written for a row in a body, by kind, in the order of the kinds' numbers.
+// How many rows are written for a row in a body, by kind, in the order of the kinds' numbers: one of the project's two constant
+// tables by kind.
 const ROWS_IN_BODY: [u8; 11] = [1, 3, 3, 1, 1, 1, 5, 3, 2, 2, 0];
 
 // How many rows are written for a row of this kind in a body.

@@ -1,5 +1,4 @@
-pub mod Added
-pub mod Bodies
 pub mod Growth
-pub mod Room
+pub mod Pairs
+pub mod Standings
 pub mod Turns

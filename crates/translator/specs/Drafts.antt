@@ -1,17 +1,22 @@
 -- The draft that a program holds, as a draft of the definition.
-use Rattle.std.specs.Prelude.{ℕ, List, [], ◌∷◌, ◌++◌, length, vec_items, slice_index, slice_set}
+use Rattle.std.specs.Prelude.{ℕ, List, [], ◌∷◌, ◌++◌, map, length, vec_items, slice_index, slice_set}
 use Rattle.rows.specs.declared.kind.Kind.TheVariants.{And, Until}
 use Rattle.rows.specs.declared.row.Row.{Row}
 use Rattle.translation.specs.Translation.{Draft, place_of, moved, two_operands, body_rows}
 use Rattle.translator.specs.declared.draft.Draft.{Draft as Held}
+use Rattle.translator.specs.declared.standing.Standing.{Standing}
 
 abbrev pub drafted : Held → Draft
 drafted d = record {
   written = vec_items d.written;
-  places = vec_items d.places;
-  gates = vec_items d.gates;
-  bars = vec_items d.bars;
+  places = map (λ (s : Standing). s.place) (vec_items d.standings);
+  gates = map (λ (s : Standing). s.gate) (vec_items d.standings);
+  bars = map (λ (s : Standing). s.bar) (vec_items d.standings);
 }
+
+-- where row i stands
+abbrev pub standing_of : Draft → ℕ → Standing
+standing_of d i = record { place = place_of d i; gate = slice_index d.gates i; bar = slice_index d.bars i }
 
 -- these rows are written too
 abbrev pub added : List Row → Draft → Draft
@@ -32,3 +37,7 @@ rows_for k r d = body_rows r.kind r (length d.written) (slice_index d.gates k) (
 -- row i has its result at this place
 abbrev pub placed : ℕ → ℕ → Draft → Draft
 placed i place d = record { written = d.written; places = slice_set d.places i place; gates = d.gates; bars = d.bars }
+
+-- row i has its gate and its bar at these places
+abbrev pub gated : ℕ → ℕ → ℕ → Draft → Draft
+gated i gate bar d = record { written = d.written; places = d.places; gates = slice_set d.gates i gate; bars = slice_set d.bars i bar }

@@ -1,14 +1,14 @@
 // A plain table that is being written.
-ghost use Rattle.std.specs.Prelude.{◌≤◌, vec_capacity};
+ghost use Rattle.std.specs.Prelude.{◌≤◌, length, vec_capacity};
 
+use crate::standing::Standing;
 use rows::Row;
 
-// The rows written so far, and for each rule row where its result, its gate and its bar stand among them. What is not known yet is 0.
+// The rows written so far, and where each rule row stands among them.
 #[derive(Drop)]
 pub(crate) struct Draft {
     pub(crate) written: Vec<Row>,
-    pub(crate) places: Vec<u16>,
-    pub(crate) gates: Vec<u16>,
-    pub(crate) bars: Vec<u16>,
+    pub(crate) standings: Vec<Standing>,
     ghost room: { 5120 ≤ vec_capacity written },
+    ghost few: { length written.items ≤ 5120 },
 }

@@ -5,6 +5,7 @@ mod draft;
 mod gates;
 mod memory;
 mod plain;
+mod standing;
 mod steps;
 #[cfg(test)]
 mod tests;

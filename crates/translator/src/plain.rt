@@ -9,7 +9,7 @@ use tables::{PlainTable, Rule, Table};
 #[derive(Drop)]
 pub struct Translation {
     pub table: PlainTable,
-    // The number of its rows.
+    // The number of its rows: a rule of the project is that a translation tells it.
     pub rows: usize,
 }
 
@@ -21,12 +21,10 @@ pub fn translate(rule: &Rule, memory: TranslatorMemory) -> Translation
     ensures told { result.rows ≡ length (translated rule.now.table.rows.items) }
     ensures bound { result.rows ≤ 5 * length rule.now.table.rows.items }
 {
-    let rows = rule.table.rows.as_slice();
-    let homes = rule.homes.as_slice();
-    let mut draft = Draft::new(rows.len(), memory);
-    draft.copy_scopes(rows, homes);
-    draft.write_gates(rows, homes);
-    draft.write_rows(rows, homes);
+    let mut draft = Draft::new(rule, memory);
+    draft.copy_scopes(rule);
+    draft.write_gates(rule);
+    draft.write_rows(rule);
     let Draft { written, .. } = draft;
     let count = written.len();
     let table = Table {

@@ -1,26 +1,17 @@
-// The three steps, one loop each.
+// The three steps, one loop each: what a loop keeps is another fact for each step, so one loop over a closure would have to be told it.
+// A step takes a row as the definition does: its home, its number and itself. Room is asked for as the step writes (write.rt).
 ghost use Rattle.std.specs.Prelude.{◌≡◌, ◌-◌, ◌<◌, ◌≤◌, length};
-ghost use Rattle.rows.specs.Homes.{homes as homes_of};
 ghost use Rattle.translation.specs.Translation.{scope_step, write_step, empty_draft, after_scopes, after_gates, after_rows};
 ghost use Rattle.translator.specs.Drafts.{drafted, placed};
 
 use crate::draft::Draft;
 use rows::{Home, Row};
+use tables::Rule;
 
 impl Draft {
-    // The row of this number has its result at this place.
-    fn set_place(&mut self, number: usize, place: u16)
-        requires { number < length (drafted self.old).places }
-        ensures { drafted self.new ≡ placed number place (drafted self.old) }
-    {
-        self.places[number] = place;
-    }
-
     // The row that was written last is the result of the row of this number.
     fn settle(&mut self, number: usize)
-        requires within { number < length (drafted self.old).places }
-        requires some { 0 < length (drafted self.old).written }
-        requires few { length (drafted self.old).written ≤ 5120 }
+        requires { 0 < length (drafted self.old).written }
         ensures { drafted self.new ≡ placed number (length (drafted self.old).written - 1) (drafted self.old) }
     {
         let last = self.written.len() - 1;
@@ -29,8 +20,7 @@ impl Draft {
 
     // The first step at a row: a row that stands in a scope is copied.
     fn copy_scope(&mut self, home: Home, number: usize, row: Row)
-        requires within { number < length (drafted self.old).places }
-        requires room { length (scope_step home number row (drafted self.old)).written ≤ 5120 }
+        requires { length (scope_step home number row (drafted self.old)).written ≤ 5120 }
         ensures { drafted self.new ≡ scope_step home number row (drafted self.old) }
     {
         if home.in_scope() {
@@ -41,15 +31,14 @@ impl Draft {
 
     // The third step at a row: one that stands in no scope is written.
     fn write_row(&mut self, home: Home, number: usize, row: Row)
-        requires within { number < length (drafted self.old).places }
-        requires room { length (write_step home number row (drafted self.old)).written ≤ 5120 }
+        requires { length (write_step home number row (drafted self.old)).written ≤ 5120 }
         ensures { drafted self.new ≡ write_step home number row (drafted self.old) }
     {
         match (home, row.kind.is_in()) {
             (Home::Scope(_), _) => {}
             (_, true) => {
-                let place = self.place_of(row.left);
-                self.set_place(number, place);
+                let body = self.standing(row.left);
+                self.set_place(number, body.place);
             }
             (Home::Outside, false) => {
                 self.copy(row);
@@ -63,38 +52,32 @@ impl Draft {
     }
 
     // The rows of scopes are copied.
-    pub(crate) fn copy_scopes(&mut self, rows: &[Row], homes: &[Home])
-        requires known { homes.now ≡ homes_of rows.now }
-        requires few { length rows.now ≤ 1024 }
-        requires before { drafted self.old ≡ empty_draft (length rows.now) }
-        ensures { drafted self.new ≡ after_scopes rows.now }
+    pub(crate) fn copy_scopes(&mut self, rule: &Rule)
+        requires { drafted self.old ≡ empty_draft (length rule.now.table.rows.items) }
+        ensures { drafted self.new ≡ after_scopes rule.now.table.rows.items }
     {
-        for i in 0..rows.len() {
-            self.copy_scope(homes[i], i, rows[i]);
+        for (number, (row, home)) in rule.table.rows.iter().zip(&rule.homes).enumerate() {
+            self.copy_scope(*home, number, *row);
         }
     }
 
     // Each in row gets its gate and its bar, the outer ones first.
-    pub(crate) fn write_gates(&mut self, rows: &[Row], homes: &[Home])
-        requires known { homes.now ≡ homes_of rows.now }
-        requires few { length rows.now ≤ 1024 }
-        requires before { drafted self.old ≡ after_scopes rows.now }
-        ensures { drafted self.new ≡ after_gates rows.now }
+    pub(crate) fn write_gates(&mut self, rule: &Rule)
+        requires { drafted self.old ≡ after_scopes rule.now.table.rows.items }
+        ensures { drafted self.new ≡ after_gates rule.now.table.rows.items }
     {
-        for i in (0..rows.len()).rev() {
-            self.write_gate(homes[i], i, rows[i]);
+        for (number, (row, home)) in rule.table.rows.iter().zip(&rule.homes).enumerate().rev() {
+            self.write_gate(*home, number, *row);
         }
     }
 
     // All other rows are written.
-    pub(crate) fn write_rows(&mut self, rows: &[Row], homes: &[Home])
-        requires known { homes.now ≡ homes_of rows.now }
-        requires few { length rows.now ≤ 1024 }
-        requires before { drafted self.old ≡ after_gates rows.now }
-        ensures { drafted self.new ≡ after_rows rows.now }
+    pub(crate) fn write_rows(&mut self, rule: &Rule)
+        requires { drafted self.old ≡ after_gates rule.now.table.rows.items }
+        ensures { drafted self.new ≡ after_rows rule.now.table.rows.items }
     {
-        for i in 0..rows.len() {
-            self.write_row(homes[i], i, rows[i]);
+        for (number, (row, home)) in rule.table.rows.iter().zip(&rule.homes).enumerate() {
+            self.write_row(*home, number, *row);
         }
     }
 }

@@ -13,7 +13,7 @@ fn rule_bytes(heap: Global, rows: &[(Kind, u16, u16)]) -> Result<Vec<u8>, Fail> 
     bytes.extend_from_slice(&count.to_be_bytes())?;
     bytes.extend_from_slice(&[2, 1])?;
     for row in rows {
-        bytes.push(row.0.number())?;
+        bytes.push(u8::from(row.0))?;
     }
     for row in rows {
         bytes.extend_from_slice(&row.1.to_be_bytes())?;

@@ -1,75 +1,14 @@
-// Writing rows into a draft.
-ghost use Rattle.std.specs.Prelude.{◌≡◌, ◌+◌, ◌<◌, ◌≤◌, [], ◌∷◌, length, replicate, vec_capacity, slice_index};
-ghost use Rattle.tables.specs.Memory.{Empty};
+// Writing rows into a draft. Each function asks for room for the rows that it writes: a number of its own, so no field says it.
+ghost use Rattle.std.specs.Prelude.{◌≡◌, ◌+◌, ◌<◌, ◌≤◌, [], ◌∷◌, length};
 ghost use Rattle.translation.specs.Counts.{rows_in_body};
-ghost use Rattle.translation.specs.Translation.{place_of, moved_half, two_operands, empty_draft};
+ghost use Rattle.translation.specs.Translation.{place_of, moved_half, two_operands};
 ghost use Rattle.translator.specs.Drafts.{drafted, added, copy_of, first_rows, rows_for};
 
 use crate::draft::Draft;
-use crate::memory::TranslatorMemory;
-use rows::{HalfUse, Kind, Row};
-
-// As many zeros as this, in an empty list that has room for them.
-fn fill(count: usize, numbers: &mut Vec<u16>)
-    requires { (count ≤ vec_capacity numbers.old) × (Empty numbers.old) }
-    ensures { numbers.new.items ≡ replicate count 0 }
-{
-    while numbers.len() < count {
-        numbers.push_reserved(0);
-    }
-}
-
-// The number at this place of a list, and 0 past its end.
-fn number_at(numbers: &[u16], place: u16) -> u16
-    ensures { result ≡ slice_index numbers.now place }
-{
-    numbers.get(usize::from(place)).copied().unwrap_or(0)
-}
+use crate::standing::Standing;
+use rows::{Half, HalfUse, Kind, Row};
 
 impl Draft {
-    // The draft of a rule with this many rows, before anything is known.
-    pub(crate) fn new(count: usize, memory: TranslatorMemory) -> Draft
-        requires { count ≤ 1024 }
-        ensures { drafted result ≡ empty_draft count }
-    {
-        let TranslatorMemory {
-            rows,
-            mut places,
-            mut gates,
-            mut bars,
-        } = memory;
-        fill(count, &mut places);
-        fill(count, &mut gates);
-        fill(count, &mut bars);
-        Draft {
-            written: rows,
-            places,
-            gates,
-            bars,
-        }
-    }
-
-    // Where the result of the rule row of this number stands.
-    pub(crate) fn place_of(&self, number: u16) -> u16
-        ensures { result ≡ place_of (drafted self.now) number }
-    {
-        number_at(self.places.as_slice(), number)
-    }
-
-    // The gate of the in row of this number.
-    pub(crate) fn gate_of(&self, number: u16) -> u16
-        ensures { result ≡ slice_index (drafted self.now).gates number }
-    {
-        number_at(self.gates.as_slice(), number)
-    }
-
-    // The bar of the in row of this number.
-    fn bar_of(&self, number: u16) -> u16
-        ensures { result ≡ slice_index (drafted self.now).bars number }
-    {
-        number_at(self.bars.as_slice(), number)
-    }
-
     // Writes a row, and tells its place.
     pub(crate) fn write(&mut self, kind: Kind, left: u16, right: u16) -> u16
         requires { length (drafted self.old).written < 5120 }
@@ -82,12 +21,12 @@ impl Draft {
     }
 
     // A half of a copy: an operand is named by its place.
-    fn moved_half(&self, of: HalfUse, half: u16) -> u16
-        ensures { result ≡ moved_half of half (place_of (drafted self.now) half) }
+    fn moved(&self, half: Half) -> u16
+        ensures { result ≡ moved_half half.of half.value (place_of (drafted self.now) half.value) }
     {
-        match of {
-            HalfUse::Operand => self.place_of(half),
-            HalfUse::Zero | HalfUse::FlagNumber | HalfUse::CodeNumber => half,
+        match half.of {
+            HalfUse::Operand => self.standing(half.value).place,
+            HalfUse::Zero | HalfUse::FlagNumber | HalfUse::CodeNumber => half.value,
         }
     }
 
@@ -97,9 +36,8 @@ impl Draft {
         ensures draft { drafted self.new ≡ added (copy_of row (drafted self.old) ∷ []) (drafted self.old) }
         ensures place { result ≡ length (drafted self.old).written }
     {
-        let left = self.moved_half(row.kind.left_use(), row.left);
-        let right = self.moved_half(row.kind.right_use(), row.right);
-        self.write(row.kind, left, right)
+        let (left, right) = row.halves();
+        self.write(row.kind, self.moved(left), self.moved(right))
     }
 
     // Writes the rows that read another at the first position from here on at which the gate is true, and tells the place of the last.
@@ -117,10 +55,9 @@ impl Draft {
         requires { length (drafted self.old).written + rows_in_body row.kind ≤ 5120 }
         ensures { drafted self.new ≡ added (rows_for around row (drafted self.old)) (drafted self.old) }
     {
-        let gate = self.gate_of(around);
-        let bar = self.bar_of(around);
-        let left = self.place_of(row.left);
-        let right = self.place_of(row.right);
+        let Standing { gate, bar, .. } = self.standing(around);
+        let left = self.standing(row.left).place;
+        let right = self.standing(row.right).place;
         match row.kind {
             Kind::Top | Kind::Not | Kind::And | Kind::Or => {
                 self.copy(row);

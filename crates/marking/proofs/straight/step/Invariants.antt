@@ -1,10 +1,13 @@
-use Rattle.std.proofs.Common.{◌+◌, length, drop, vec_items}
-use Rattle.marking.specs.Marks.{Filled}
+use Rattle.std.proofs.Common.{◌≡◌, ℕ, ◌≤◌, length, get_or, drop, vec_items}
+use Rattle.marking.specs.Marks.{MarksOn}
 use Rattle.marking.specs.Straight.{straight_mark}
 use Rattle.marking.proofs.straight.step.Given as goal
 
+-- the marks of the rows so far, and those of the others as they were
 abbrev pub invariant-loop-number : goal.invariant-loop-number
 invariant-loop-number g l =
-    let rows = vec_items l.rule.table.rows in
-    let states = g.S.Session.states l.session in
-    Filled g.M.Scale.ops (length rows) (straight_mark g.M.Scale.ops rows) (drop l.position states) (drop (l.position + 1) states) l.number l.initial.marks l.marks
+    let L = g.M.Scale.ops in
+    record {
+      here : MarksOn L (straight_mark L (vec_items l.rule.table.rows)) (drop l.position (g.S.Session.states l.session)) (length l.yielded) l.marks;
+      ahead : (k : ℕ) → length l.yielded ≤ k → get_or l.marks k L.top ≡ get_or l.initial.marks k L.top;
+    }

@@ -2,5 +2,6 @@ use Rattle.std.proofs.Common.{◌≡◌, ◌++◌, drop, string_bytes}
 use Rattle.report.specs.Plain.{row_lines, table_lines}
 use Rattle.report.proofs.plain.lines.Given as goal
 
-abbrev pub invariant-loop-i : goal.invariant-loop-i
-invariant-loop-i l = string_bytes l.text ++ row_lines l.i (drop l.i l.rows) ≡ table_lines l.table.flags l.table.codes l.rows
+abbrev pub invariant-loop-number : goal.invariant-loop-number
+invariant-loop-number l =
+    string_bytes l.text ++ row_lines l.number-counter (drop l.number-counter l.row-items) ≡ table_lines l.table.flags l.table.codes l.row-items

@@ -6,14 +6,8 @@ use Rattle.tables.specs.declared.table.Table.{Table}
 use Rattle.rows.proofs.Items.{item_there}
 use Rattle.scopes.specs.Ruled.{Ruled, ScopeRoot}
 use Rattle.scopes.proofs.Rules.{ruled}
-use Rattle.scopes.proofs.Answering.{no_row, rule_root}
+use Rattle.scopes.proofs.Answering.{rule_root}
 use Rattle.scopes.proofs.rule.in_scope.Goals as goal
-
-pub returns-in_err-row : goal.returns-in_err-row
-returns-in_err-row c =
-    let k = c.args.in_row in
-    c.from_residual.ensures
-    ∙ no_row (vec_items c.args.rule.now.table.rows) k c.args.state.now (c.in_err-row.ensures ∙ ap (λ (t : Table). item_of (vec_items t.rows) k blank) c.table-2.ensures)
 
 -- the root of the scope, by the rows that the code holds
 root : (rows held : List Row) (k n : ℕ) (row : Row) → held ≡ rows → Ruled rows → row ≡ get_or rows k blank → is_in row.kind ≡ true → n ≡ row.right → ScopeRoot held n

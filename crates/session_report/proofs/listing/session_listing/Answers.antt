@@ -6,19 +6,19 @@ use Rattle.session_report.specs.Listing.{state_line, session_lines}
 use Rattle.session_report.proofs.Texts.{alike_line}
 use Rattle.session_report.proofs.listing.session_listing.Goals as goal
 
-pub loop-i-init : goal.loop-i-init
-loop-i-init g c = ap (λ text. text ++ session_lines (g.S.Session.states c.args.session.now)) c.new-text.ensures.bytes
+pub loop-number-init : goal.loop-number-init
+loop-number-init g c = ap (λ text. text ++ session_lines (g.S.Session.states c.args.session.now)) c.new-text.ensures.bytes
 
-pub loop-i-preserved : goal.loop-i-preserved
-loop-i-preserved g c =
+pub loop-number-preserved : goal.loop-number-preserved
+loop-number-preserved g c =
     let w = g.S.Session.states c.args.session.now in
-    let i = c.loop-i.i in
-    ap (λ text. text ++ numbered state_line (i + 1) (drop (i + 1) w)) c.in_ok-push_str.ensures.bytes
-    ∙ numbered_more state_line _ _ _ i w no_state (omega (arith, c.len-i-end.ensures))
-    (c.as_str.ensures.value ∙ c.in_ok-state_line.ensures ∙ alike_line i c.state_at-state.result (get_or w i no_state) c.state_at-state.ensures)
-    c.loop-i.invariant
+    let i = c.loop-number.number-counter in
+    ap (λ text. text ++ numbered state_line (i + 1) (drop (i + 1) w)) c.in_ok-writeln.ensures.bytes
+    ∙ numbered_more state_line _ _ _ i w no_state (omega (arith, c.len-number-end.ensures))
+    (alike_line i c.state_at-state.result (get_or w i no_state) c.state_at-state.ensures)
+    c.loop-number.invariant
 
 pub returns : goal.returns
 returns g c =
     let w = g.S.Session.states c.args.session.now in
-    numbered_done state_line _ _ c.loop-i.i w (omega (arith, c.len-i-end.ensures)) c.loop-i.invariant
+    numbered_done state_line _ _ c.loop-number.number-counter w (omega (arith, c.len-number-end.ensures)) c.loop-number.invariant

@@ -3,7 +3,7 @@ use Rattle.report.specs.Lines.{numbered}
 use Rattle.session_report.specs.Listing.{state_line, session_lines}
 use Rattle.session_report.proofs.listing.session_listing.Given as goal
 
-abbrev pub invariant-loop-i : goal.invariant-loop-i
-invariant-loop-i g l =
+abbrev pub invariant-loop-number : goal.invariant-loop-number
+invariant-loop-number g l =
     let w = g.S.Session.states l.session in
-    string_bytes l.text ++ numbered state_line l.i (drop l.i w) ≡ session_lines w
+    string_bytes l.text ++ numbered state_line l.number-counter (drop l.number-counter w) ≡ session_lines w

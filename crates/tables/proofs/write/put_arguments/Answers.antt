@@ -1,15 +1,11 @@
-use Rattle.std.proofs.Common.{◌*◌, [], ◌++◌, take, sym, ap, ◌∙◌, arith, take_all}
+use Rattle.std.proofs.Common.{◌*◌, [], ◌++◌, take, sym, ap, ◌∙◌, arith}
 use Rattle.std.specs.List.{flat_map}
 use Rattle.std.proofs.lemmas.List.{length-take-le, take_more, flat_map_more}
 use Rattle.rows.specs.Rows.{blank}
 use Rattle.tables.specs.Format.{half_bytes}
-use Rattle.tables.specs.Writing.{laid}
-use Rattle.tables.proofs.Laid.{laid_none, laid_more}
+use Rattle.tables.proofs.Laid.{laid_more}
 use Rattle.tables.proofs.Written.{length_halves}
 use Rattle.tables.proofs.write.put_arguments.Goals as goal
-
-pub loop-i-init : goal.loop-i-init
-loop-i-init c = sym (laid_none c.args.at c.args.buffer.now)
 
 pub loop-i-preserved : goal.loop-i-preserved
 loop-i-preserved c =
@@ -20,6 +16,3 @@ loop-i-preserved c =
     (length_halves (take i rows) ∙ ap (λ n. 4 * n) (length-take-le i rows (omega arith)))
     (ap (λ bytes. done ++ bytes) c.argument.ensures ∙ flat_map_more half_bytes [] (take i rows) _ ∙ ap (flat_map half_bytes) (sym (take_more rows i blank c.loop-i-test.true)))
     c.loop-i.invariant c.put.ensures
-
-pub returns : goal.returns
-returns c = c.loop-i.invariant ∙ ap (λ rows. laid c.args.at (flat_map half_bytes rows) c.args.buffer.now) (take_all _ _ c.loop-i-test.false)

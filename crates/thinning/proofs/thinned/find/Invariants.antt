@@ -4,9 +4,9 @@ use Rattle.scopes.specs.Answered.{whole}
 use Rattle.thinning.specs.Thinned.{states_at}
 use Rattle.thinning.proofs.thinned.find.Given as goal
 
-abbrev pub invariant-loop-i : goal.invariant-loop-i
-invariant-loop-i g l =
+abbrev pub invariant-loop-position : goal.invariant-loop-position
+invariant-loop-position g l =
     let w = g.S.Session.states l.session in
-    (vec_len l.positions ≤ l.i)
+    (vec_len l.positions ≤ l.position)
     × (65535 ≤ vec_capacity l.positions)
-    × (states_at w (vec_items l.positions) ≡ filter (in_scope (whole (vec_items l.scope.table.rows))) (take l.i w))
+    × (states_at w (vec_items l.positions) ≡ filter (in_scope (whole (vec_items l.scope.table.rows))) (take l.position w))

@@ -1,38 +1,25 @@
-use Rattle.std.proofs.Common.{◌≡◌, ◌-◌, length, drop, None, vec_items, refl, ap, subst}
+use Rattle.std.proofs.Common.{◌≡◌, length, drop, None, vec_items, ap, subst}
 use Rattle.meaning.specs.Meaning.{row_mark}
 use Rattle.marking.specs.Marks.{Filled}
 use Rattle.marking.specs.Strips.{strip_fault}
 use Rattle.marking.proofs.Filling.{long_enough, strip_is}
-use Rattle.marking.proofs.Plain.{rows_are, rows_sound, some_rows, few_rows}
+use Rattle.marking.proofs.Plain.{rows_are, rows_sound, some_rows}
 use Rattle.marking.proofs.strip.Strip.mark_plain.Goals as goal
 
-pub check_len-requires : goal.check_len-requires
-check_len-requires g c = few_rows c.args.table.now _ _ c.as_slice-rows.ensures.value c.table.ensures
-
-pub mark_rows-requires : goal.mark_rows-requires
-mark_rows-requires g c =
+pub mark_rows-requires-clause-sound : goal.mark_rows-requires-clause-sound
+mark_rows-requires-clause-sound g c =
     let plain = c.args.table.now in
     let slice_is = c.as_slice-rows.ensures.value in
-    let table_is = c.table.ensures in
-    let sound = rows_sound plain _ _ slice_is table_is in
-    record {
-      sound = (sound.0, (sound.1, some_rows plain _ _ slice_is table_is));
-      room = (few_rows plain _ _ slice_is table_is, long_enough _ _ c.in_ok-check_len.ensures);
-    }
+    let sound = rows_sound plain _ _ slice_is c.table.ensures in (sound.0, (sound.1, some_rows plain _ _ slice_is c.table.ensures))
 
-pub returns : goal.returns
-returns g c =
+pub returns-clause-strip : goal.returns-clause-strip
+returns-clause-strip g c =
     let rows = vec_items c.args.table.now.table.rows in
     let L = g.M.Scale.ops in
     let w = g.S.Session.states c.args.session.now in
     let old = c.args.self.now.marks.now in
-    let now = c.mark_rows.new.marks in
+    let now = c.mark_rows.new.strip in
     let is = rows_are c.args.table.now _ _ c.as_slice-rows.ensures.value c.table.ensures in
     let fine : strip_fault (length rows) (length old) ≡ None = subst (λ n. strip_fault n (length old) ≡ None) (ap length is) c.in_ok-check_len.ensures in
-    let value = subst (λ r. c.mark_rows.result ≡ row_mark L r (length r - 1) w) is c.mark_rows.ensures.value in
     let filled = subst (λ r. Filled L (length r) (row_mark L r) w (drop 1 w) (length r) old now) is c.mark_rows.ensures.filled in
-    record {
-      value = (fine, value);
-      strip = strip_is L rows w old now (long_enough (length rows) (length old) fine) filled;
-      name = refl {a = c.args.self.now.marks.ghost_name};
-    }
+    strip_is L rows w old now (long_enough (length rows) (length old) fine) filled

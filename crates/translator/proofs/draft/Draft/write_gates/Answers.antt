@@ -1,30 +1,55 @@
-use Rattle.std.proofs.Common.{arith}
-use Rattle.rows.proofs.Places.{length_homes}
+use Rattle.std.proofs.Common.{◌≡◌, ◌+◌, length, vec_items, sym, ap, subst, arith}
 use Rattle.translation.specs.Translation.{gate_step, after_gates}
 use Rattle.translator.specs.Drafts.{drafted}
 use Rattle.translator.proofs.Growth.{gate_grows}
-use Rattle.translator.proofs.Turns.{gates_start, gates_few, falling_room, falling_more, falling_end}
+use Rattle.rows.proofs.Walks.{Turn}
+use Rattle.translator.proofs.Pairs.{rows_left, back_start, back_turn, back_less, back_more, back_end}
+use Rattle.translator.proofs.Turns.{FallingTo, gates_start, gates_few, falling_room, falling_more, falling_end}
 use Rattle.translator.proofs.draft.Draft.write_gates.Goals as goal
+use Rattle.translator.proofs.draft.Draft.write_gates.Goals.{In-Some}
 
-pub bounds-homes-i : goal.bounds-homes-i
-bounds-homes-i c = omega (arith, length_homes c.args.rows.now c.requires.known)
+turn : (c : In-Some) → Turn (vec_items c.args.rule.now.table.rows) (length (rows_left c.next.new.self)) c.in-Some.number c.in-Some.row.now c.in-Some.home.now
+turn c =
+    let rule = c.args.rule.now in
+    back_turn (vec_items rule.table.rows) (vec_items rule.homes) rule.placed c.loop-number.number-iterator c.next.new.self c.loop-number.invariant.back c.in-Some.number c.in-Some.row c.in-Some.home c.in-Some.ensures.steps
+
+left : (c : In-Some) → FallingTo gate_step (vec_items c.args.rule.now.table.rows) (after_gates (vec_items c.args.rule.now.table.rows)) (length (rows_left c.next.new.self) + 1) (drafted c.loop-number.self)
+left c =
+    let rule = c.args.rule.now in
+    let rows = vec_items rule.table.rows in
+    let less = back_less rows (vec_items rule.homes) rule.placed c.loop-number.number-iterator c.next.new.self c.loop-number.invariant.back c.in-Some.number c.in-Some.row c.in-Some.home c.in-Some.ensures.steps in
+    subst (λ n. FallingTo gate_step rows (after_gates rows) n (drafted c.loop-number.self)) less c.loop-number.invariant.left
+
+pub loop-number-init : goal.loop-number-init
+loop-number-init c =
+    let rule = c.args.rule.now in
+    let rows = vec_items rule.table.rows in
+    let all : rows_left c.into_iter-number-iterator.result ≡ rows = cc in
+    record {
+      back = back_start rows (vec_items rule.homes) rule.placed c.into_iter-number-iterator.result (cc, cc, cc);
+      left = subst (λ n. FallingTo gate_step rows (after_gates rows) n (drafted c.args.self.now)) (sym (ap length all)) (gates_start rows c.requires);
+    }
 
 pub write_gate-requires : goal.write_gate-requires
 write_gate-requires c =
-    let rows = c.args.rows.now in
-    let sized = c.loop-i.invariant.0 in
-    let room = falling_room gate_step gate_grows rows c.args.homes.now c.requires.known (after_gates rows) c.loop-i.i (drafted c.loop-i.self) c.loop-i-test.true c.loop-i.auto.i c.loop-i.invariant in
-    record { gates = omega (arith, sized.gates); bars = omega (arith, sized.bars); room = omega (arith, room, gates_few rows c.requires.few) }
+    let rule = c.args.rule.now in
+    let rows = vec_items rule.table.rows in
+    let here = (goal.at.write_gate-requires c).In-Some in
+    omega (arith, falling_room gate_step gate_grows rows (after_gates rows) _ (drafted c.loop-number.self) (turn here) (left here), gates_few rows rule.few)
 
-pub loop-i-init : goal.loop-i-init
-loop-i-init c = gates_start c.args.rows.now c.requires.before
-
-pub loop-i-preserved : goal.loop-i-preserved
-loop-i-preserved c =
-    let rows = c.args.rows.now in
-    falling_more gate_step gate_grows rows c.args.homes.now c.requires.known (after_gates rows) c.loop-i.i (drafted c.loop-i.self) c.loop-i-test.true c.loop-i.auto.i c.loop-i.invariant c.write_gate.ensures
+pub loop-number-preserved : goal.loop-number-preserved
+loop-number-preserved c =
+    let rule = c.args.rule.now in
+    let rows = vec_items rule.table.rows in
+    let here = (goal.at.loop-number-preserved c).In-Some in
+    record {
+      back = back_more rows (vec_items rule.homes) rule.placed c.loop-number.number-iterator c.next.new.self c.loop-number.invariant.back c.in-Some.number c.in-Some.row c.in-Some.home c.in-Some.ensures.steps;
+      left = falling_more gate_step gate_grows rows (after_gates rows) _ (drafted c.loop-number.self) (turn here) (left here) c.write_gate.ensures;
+    }
 
 pub returns : goal.returns
 returns c =
-    let rows = c.args.rows.now in
-    falling_end gate_step gate_grows rows (after_gates rows) c.loop-i.i (drafted c.loop-i.self) c.loop-i-test.false c.loop-i.invariant
+    let rule = c.args.rule.now in
+    let rows = vec_items rule.table.rows in
+    let none = back_end rows (vec_items rule.homes) rule.placed c.loop-number.number-iterator c.next.new.self c.loop-number.invariant.back c.in-None.ensures.steps in
+    falling_end gate_step gate_grows rows (after_gates rows) (length (rows_left c.loop-number.number-iterator)) (drafted c.loop-number.self) (omega arith) c.loop-number.invariant.left
