@@ -1,14 +1,8 @@
-use Rattle.std.proofs.Common.{◌+◌, ◌++◌, length, drop, sym, refl, ap, ◌∙◌}
+use Rattle.std.proofs.Common.{◌+◌, ◌++◌, drop, refl, ap, ◌∙◌}
 use Rattle.rows.specs.Rows.{blank}
-use Rattle.report.specs.Plain.{row_line, head_line, row_lines, table_lines}
+use Rattle.report.specs.Plain.{row_line, row_lines, table_lines}
 use Rattle.report.proofs.Lines.{numbered_more, numbered_done}
 use Rattle.report.proofs.plain.lines.Goals as goal
-
-pub loop-number-init : goal.loop-number-init
-loop-number-init c =
-    let table = c.args.table.now in
-    let rows = c.deref-row-items.result.now in
-    ap (λ text. text ++ row_lines 0 rows) (c.in_ok-text.ensures.ok ∙ ap (λ l. head_line (length l) table.flags table.codes) (sym c.deref-row-items.ensures.value))
 
 pub loop-number-preserved : goal.loop-number-preserved
 loop-number-preserved c =

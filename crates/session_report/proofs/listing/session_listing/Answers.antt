@@ -2,12 +2,9 @@ use Rattle.std.proofs.Common.{◌+◌, ◌++◌, get_or, drop, ap, ◌∙◌, ar
 use Rattle.sessions.specs.States.{no_state}
 use Rattle.report.specs.Lines.{numbered}
 use Rattle.report.proofs.Lines.{numbered_more, numbered_done}
-use Rattle.session_report.specs.Listing.{state_line, session_lines}
+use Rattle.session_report.specs.Listing.{state_line}
 use Rattle.session_report.proofs.Texts.{alike_line}
 use Rattle.session_report.proofs.listing.session_listing.Goals as goal
-
-pub loop-number-init : goal.loop-number-init
-loop-number-init g c = ap (λ text. text ++ session_lines (g.S.Session.states c.args.session.now)) c.new-text.ensures.bytes
 
 pub loop-number-preserved : goal.loop-number-preserved
 loop-number-preserved g c =

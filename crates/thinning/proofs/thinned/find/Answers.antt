@@ -1,5 +1,4 @@
-use Rattle.std.proofs.Common.{◌-◌, ◌<◌, length, get_or, vec_items, vec_len, vec_capacity, filter, ap, ◌∙◌, arith}
-use Rattle.std.proofs.lemmas.List.{take_all}
+use Rattle.std.proofs.Common.{◌-◌, ◌<◌, length, get_or, vec_items, vec_len, vec_capacity, ap, ◌∙◌, arith}
 use Rattle.sessions.specs.States.{no_state}
 use Rattle.tables.specs.declared.form.Form.TheVariants.{Rule}
 use Rattle.tables.proofs.Sound.{fine_sizes}
@@ -32,12 +31,3 @@ loop-position-preserved g c =
         passed w (in_scope (whole rows)) _ (vec_items c.if-kept.positions) i c.loop-position.invariant.2 (ap vec_items u.positions-is) within told u.if-kept.false,
       )
     ]
-
-pub returns : goal.returns
-returns g c =
-    let w = g.S.Session.states c.args.session.now in
-    let rows = vec_items c.args.scope.now.table.rows in
-    record {
-      states = c.loop-position.invariant.2 ∙ ap (filter (in_scope (whole rows))) (take_all c.loop-position.position w (omega (arith, c.len-position-end.ensures)));
-      few = omega arith;
-    }
