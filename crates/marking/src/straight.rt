@@ -105,11 +105,13 @@ pub(crate) fn mark_rule_rows<M: Scale, S: Session>(rule: &Rule, session: &S, str
     let rows = rule.table.rows.as_slice();
     let (marks, rest) = strip.split_at_mut(rows.len());
     let after = &mut rest[..rows.len()];
-    let mut bodies = [Left::default(); 1024];
+    let mut lefts = [Left::default(); 1024];
+    // Those of the rule's rows alone: a state costs no more than they need.
+    let bodies = &mut lefts[..rows.len()];
     start(rows, marks, after);
     for position in (0..session.len()).rev() {
-        step(rule, session, position, &mut bodies, marks, after);
-        add_later(&mut bodies);
+        step(rule, session, position, bodies, marks, after);
+        add_later(bodies);
     }
     last_mark(marks)
 }

@@ -1,5 +1,5 @@
 // The bytes of one printed line.
-ghost use Rattle.std.specs.Prelude.{◌≡◌, length, Some, IfOk, string_bytes};
+ghost use Rattle.std.specs.Prelude.{◌≡◌, ◌++◌, length, Some, IfOk, OnOk, string_bytes};
 ghost use Rattle.report.specs.Lines.{head_text, summary_text, rule_line, refused_line, file_line};
 
 use packs::Summary;
@@ -28,19 +28,42 @@ pub fn summary_line(heap: Global, summary: Summary) -> Result<String, AllocError
     format!(in heap; "{summary}\n")
 }
 
-// A lawful rule: its label, its number of rows, its flags used and its codes used.
+// Appends the line of a lawful rule, so that a listing takes no text of its own for it: its label, its number of rows, its flags used
+// and its codes used.
+pub(crate) fn append_rule_line(text: &mut String, label: u16, rule: &Rule) -> Result<(), AllocError>
+    ensures { OnOk result (string_bytes text.new ≡ string_bytes text.old ++ rule_line label (length rule.now.table.rows.items) rule.now.table.flags rule.now.table.codes) }
+{
+    let head = Head(rule.table());
+    writeln!(text, "{label} {head}")
+}
+
+// The line of a lawful rule.
 pub fn rule_line(heap: Global, label: u16, rule: &Rule) -> Result<String, AllocError>
     ensures { IfOk result (λ s. string_bytes s ≡ rule_line label (length rule.now.table.rows.items) rule.now.table.flags rule.now.table.codes) }
 {
-    let head = Head(rule.table());
-    format!(in heap; "{label} {head}\n")
+    let mut text = String::new(heap);
+    append_rule_line(&mut text, label, rule)?;
+    Ok(text)
 }
 
-// A refused rule: its label, and the number and the place of the refusal.
+// Appends the line of a refused rule: its label, and the number and the place of the refusal.
+pub(crate) fn append_refused_rule_line(
+    text: &mut String,
+    label: u16,
+    refusal: Refusal,
+) -> Result<(), AllocError>
+    ensures { OnOk result (string_bytes text.new ≡ string_bytes text.old ++ refused_line label refusal.number refusal.place) }
+{
+    writeln!(text, "{label} {refusal}")
+}
+
+// The line of a refused rule.
 pub fn refused_rule_line(heap: Global, label: u16, refusal: Refusal) -> Result<String, AllocError>
     ensures { IfOk result (λ s. string_bytes s ≡ refused_line label refusal.number refusal.place) }
 {
-    format!(in heap; "{label} {refusal}\n")
+    let mut text = String::new(heap);
+    append_refused_rule_line(&mut text, label, refusal)?;
+    Ok(text)
 }
 
 // A file that is refused whole: the number and the place of the refusal.

@@ -3,15 +3,13 @@ ghost use Rattle.std.specs.Prelude.{◌≡◌, ◌+◌, ◌<◌, ◌++◌, IfOk,
 ghost use Rattle.packs.specs.Format.{rule_count, label_of};
 ghost use Rattle.report.specs.Listing.{line_at, lines_of, listing};
 
-use crate::line::{Head, refused_file_line, summary_line};
+use crate::line::{append_refused_rule_line, append_rule_line, refused_file_line, summary_line};
 use files::LONGEST;
 use packs::{Pack, PackFault, PackReader};
-use refusals::Refusal;
 use std::alloc::{AllocError, Global};
 use tables::RuleMemory;
 
-// Appends the line of the rule at the reader's place, which has this label. The reader goes on by one. The parts of a line print
-// themselves, so that appending it takes no text of its own.
+// Appends the line of the rule at the reader's place, which has this label. The reader goes on by one.
 fn append_next(
     text: &mut String,
     heap: Global,
@@ -26,15 +24,11 @@ fn append_next(
 {
     let memory = RuleMemory::reserve(heap)?;
     match reader.load(memory) {
-        Ok(Some(rule)) => {
-            let head = Head(rule.table());
-            writeln!(text, "{label} {head}")
-        }
+        Ok(Some(rule)) => append_rule_line(text, label, &rule),
         Ok(None) => Ok(()),
         Err(fault) => {
             reader.skip();
-            let refusal = Refusal::from(fault);
-            writeln!(text, "{label} {refusal}")
+            append_refused_rule_line(text, label, fault.into())
         }
     }
 }

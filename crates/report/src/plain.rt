@@ -1,5 +1,5 @@
 // What is in a plain table, row by row.
-ghost use Rattle.std.specs.Prelude.{◌≡◌, true, IfOk, string_bytes};
+ghost use Rattle.std.specs.Prelude.{◌≡◌, ◌++◌, true, IfOk, OnOk, string_bytes};
 ghost use Rattle.tables.specs.Reading.{bytes_of};
 ghost use Rattle.report.specs.Plain.{row_line, table_lines, listing as listing_of};
 
@@ -9,11 +9,21 @@ use rows::Row;
 use std::alloc::{AllocError, Global};
 use tables::{PlainMemory, PlainTable, Table, TableFault};
 
-// A row: its number, the word of its kind, and the halves that its kind uses.
+// Appends the line of a row, so that a listing takes no text of its own for it: its number, the word of its kind, and the halves that its
+// kind uses.
+fn append_row_line(text: &mut String, number: usize, row: Row) -> Result<(), AllocError>
+    ensures { OnOk result (string_bytes text.new ≡ string_bytes text.old ++ row_line number row) }
+{
+    writeln!(text, "{number} {row}")
+}
+
+// The line of a row.
 pub fn plain_row_line(heap: Global, number: usize, row: Row) -> Result<String, AllocError>
     ensures { IfOk result (λ s. string_bytes s ≡ row_line number row) }
 {
-    format!(in heap; "{number} {row}\n")
+    let mut text = String::new(heap);
+    append_row_line(&mut text, number, row)?;
+    Ok(text)
 }
 
 // The first line of a table, and then a line for each row.
@@ -23,7 +33,7 @@ fn lines(heap: Global, table: &Table) -> Result<String, AllocError>
     let head = Head(table);
     let mut text = format!(in heap; "{head}\n")?;
     for (number, row) in table.rows.iter().enumerate() {
-        writeln!(text, "{number} {row}")?;
+        append_row_line(&mut text, number, *row)?;
     }
     Ok(text)
 }

@@ -2,6 +2,7 @@
 ghost use Rattle.std.specs.Prelude.{◌≡◌, IfOk, string_bytes};
 ghost use Rattle.session_report.specs.Listing.{session_lines, listing as listing_of};
 
+use crate::state::append_state_line;
 use files::LONGEST;
 use report::refused_file_line;
 use sessions::{Session, SessionFault, Sheet, state_at};
@@ -14,7 +15,7 @@ pub fn session_listing<S: Session>(heap: Global, session: &S) -> Result<String, 
     let mut text = String::new(heap);
     for number in 0..session.len() {
         let state = state_at(session, number);
-        writeln!(text, "{number} {state}")?;
+        append_state_line(&mut text, number, &state)?;
     }
     Ok(text)
 }

@@ -33,16 +33,6 @@ fn tick_fault(count: u16, ticks: &[u16], entry: usize) -> Option<SessionFault>
     (falls || ticks[entry] >= count).then_some(SessionFault::LogTick(entry))
 }
 
-// How many entries, of which the ticks never fall, have this tick or a lower one.
-fn entries_upto(ticks: &[u16], position: u16) -> usize
-    requires { Rising ticks.now }
-    ensures bound { result ≤ length ticks.now }
-    ensures low { (k : ℕ) → k < result → slice_index ticks.now k ≤ position }
-    ensures high { (k : ℕ) → result ≤ k → k < length ticks.now → position < slice_index ticks.now k }
-{
-    ticks.partition_point(|tick| *tick <= position)
-}
-
 // The word of each state: that of the state before, with the flags of the entries at this tick turned.
 fn words(count: u16, ticks: &[u16], flags: &[u8], memory: LogMemory) -> Vec<u32>
     requires same { length ticks.now ≡ length flags.now }
@@ -55,12 +45,11 @@ fn words(count: u16, ticks: &[u16], flags: &[u8], memory: LogMemory) -> Vec<u32>
     let mut done = 0;
     let mut word: u32 = 0;
     for position in 0..count {
-        let upto = entries_upto(ticks, position);
-        // No `fold`: its closure would have to be told that the flags are below 32.
-        for flag in &flags[done..upto] {
-            word ^= 1 << *flag;
+        // By number, since searching all ticks, and counting those left by `take_while` or `position`, were tried and are slower.
+        while done < ticks.len() && ticks[done] <= position {
+            word ^= 1 << flags[done];
+            done += 1;
         }
-        done = upto;
         words.push_reserved(word);
     }
     words

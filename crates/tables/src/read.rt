@@ -70,15 +70,18 @@ impl Head {
         Ok(())
     }
 
-    // Row i in the bytes after the sizes.
+    // Row i in the bytes after the sizes. Inlined, since it is the whole of the loop over a table's rows.
+    #[inline(always)]
     fn read_row(self, rest: &[u8], i: usize) -> Result<Row, TableFault>
         requires { (i < self.rows) × (length rest.now ≡ 5 * self.rows) }
         ensures { Answers (fault_at self.form self.rows self.flags self.codes rest.now i) result (λ row. row ≡ row_at rest.now self.rows i) }
     {
         let kind = Kind::try_from(rest[i]).map_err(|_| TableFault::UnknownKind(i))?;
         let at = self.rows + 4 * i;
-        let left = word_at(rest, at);
-        let right = word_at(rest, at + 2);
+        // Four bytes, so that reading a half needs no test of how many there are.
+        let argument = &rest[at..at + 4];
+        let left = word_at(argument, 0);
+        let right = word_at(argument, 2);
         let row = Row { kind, left, right };
         self.check_row(i, row)?;
         Ok(row)

@@ -33,7 +33,7 @@ module _ (w : List State) (positions : List ℕ) (i : ℕ) where
   past : length positions ≤ i → length (states_at w positions) ≤ i
   past end = omega (arith, length-map positions (λ k. get_or w k no_state))
 
-  code_here : (number : ℕ) {k : ℕ} {z : ℤ} → i < length positions → k ≡ get_or positions i 0 → z ≡ code_at w k number → z ≡ code_at (states_at w positions) i number
+  pub code_here : (number : ℕ) {k : ℕ} {z : ℤ} → i < length positions → k ≡ get_or positions i 0 → z ≡ code_at w k number → z ≡ code_at (states_at w positions) i number
   code_here number within at told = told ∙ ap (λ n. code_at w n number) at ∙ sym (ap (code_of number) (here within))
 
   pub code_told : (number : ℕ) (below : Option ℕ) {z : ℤ} → below ≡ item_of positions i 0 → MatchOption below (z ≡ pos 0) (λ k. z ≡ code_at w k number) → z ≡ code_at (states_at w positions) i number

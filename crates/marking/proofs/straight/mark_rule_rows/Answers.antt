@@ -1,5 +1,5 @@
-use Rattle.std.proofs.Common.{◌≡◌, ◌+◌, ◌-◌, ◌<◌, [], ◌++◌, length, get_or, drop, replicate, vec_items, sym, ap, ◌∙◌, subst, arith}
-use Rattle.std.proofs.lemmas.List.{drop_all, drop_more, length-replicate, length-take}
+use Rattle.std.proofs.Common.{◌≡◌, ◌+◌, ◌-◌, ◌<◌, ◌≤◌, [], ◌++◌, length, get_or, take, drop, replicate, vec_items, sym, ap, ◌∙◌, subst, arith}
+use Rattle.std.proofs.lemmas.List.{drop_all, drop_more, length-replicate, length-take, take-replicate}
 use Rattle.sessions.specs.States.{no_state}
 use Rattle.meaning.specs.Meaning.{row_mark}
 use Rattle.marking.specs.Bodies.{Bodies, heres, laters}
@@ -22,12 +22,17 @@ loop-position-init g c =
     let plain = subst (λ r. MarksOn L (row_mark L r) [] (length r) marks) c.as_slice-rows.ensures.value c.start.ensures.marked in
     let started = at_end L (length rows) (straight_mark L rows) states marks c.start.new.after (straight_start L rows (length rows) marks plain) c.start.ensures.stored c.len-position.result c.len-position.ensures in
     let none : drop c.len-position.result states ≡ [] = drop_all c.len-position.result states (omega (arith, c.len-position.ensures)) in
-    let default : nothing_left ≡ c.default-bodies.result = λ j. record { here = sym c.default-bodies.ensures.0 j; later = sym c.default-bodies.ensures.1 j } in
+    let default : nothing_left ≡ c.default-lefts.result = λ j. record { here = sym c.default-lefts.ensures.0 j; later = sym c.default-lefts.ensures.1 j } in
+    let n = length c.as_slice-rows.result.now in
+    let same : n ≡ length rows = ap length c.as_slice-rows.ensures.value in
+    let few : n ≤ 1024 = omega (arith, same, c.args.rule.now.few) in
+    let taken = take-replicate n 1024 c.default-lefts.result few in
+    let untaken = subst (λ l. Bodies rows [] (laters (replicate n l))) default (nothing_taken rows n) in
     record {
       here = started.0;
       later = started.1;
-      bodies = subst (λ w. Bodies rows w (laters (replicate 1024 c.default-bodies.result))) (sym none) (subst (λ l. Bodies rows [] (laters (replicate 1024 l))) default (nothing_taken rows 1024));
-      many = length-replicate 1024 c.default-bodies.result;
+      bodies = subst (λ w. Bodies rows w (laters (take n (replicate 1024 c.default-lefts.result)))) (sym none) (subst (λ l. Bodies rows [] (laters l)) (sym taken) untaken);
+      many = ap length taken ∙ length-replicate n c.default-lefts.result ∙ same;
     }
 
 pub loop-position-preserved : goal.loop-position-preserved

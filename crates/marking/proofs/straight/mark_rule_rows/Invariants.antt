@@ -13,5 +13,5 @@ invariant-loop-position g l =
       here : MarksOn L (straight_mark L rows) (drop l.position states) (length rows) l.marks;
       later : MarksOn L (straight_mark L rows) (drop (l.position + 1) states) (length rows) l.after;
       bodies : Bodies rows (drop l.position states) (laters l.bodies);
-      many : length l.bodies ≡ 1024;
+      many : length l.bodies ≡ length rows;
     }

@@ -4,4 +4,4 @@ use Rattle.report.proofs.plain.lines.Given as goal
 
 abbrev pub invariant-loop-number : goal.invariant-loop-number
 invariant-loop-number l =
-    string_bytes l.text ++ row_lines l.number-counter (drop l.number-counter l.row-items) ≡ table_lines l.table.flags l.table.codes l.row-items
+    string_bytes l.text ++ row_lines l.number (drop l.number l.row-items) ≡ table_lines l.table.flags l.table.codes l.row-items

@@ -9,8 +9,8 @@ use Rattle.session_report.proofs.listing.session_listing.Goals as goal
 pub loop-number-preserved : goal.loop-number-preserved
 loop-number-preserved g c =
     let w = g.S.Session.states c.args.session.now in
-    let i = c.loop-number.number-counter in
-    ap (λ text. text ++ numbered state_line (i + 1) (drop (i + 1) w)) c.in_ok-writeln.ensures.bytes
+    let i = c.loop-number.number in
+    ap (λ text. text ++ numbered state_line (i + 1) (drop (i + 1) w)) c.in_ok-append_state_line.ensures
     ∙ numbered_more state_line _ _ _ i w no_state (omega (arith, c.len-number-end.ensures))
     (alike_line i c.state_at-state.result (get_or w i no_state) c.state_at-state.ensures)
     c.loop-number.invariant
@@ -18,4 +18,4 @@ loop-number-preserved g c =
 pub returns : goal.returns
 returns g c =
     let w = g.S.Session.states c.args.session.now in
-    numbered_done state_line _ _ c.loop-number.number-counter w (omega (arith, c.len-number-end.ensures)) c.loop-number.invariant
+    numbered_done state_line _ _ c.loop-number.number w (omega (arith, c.len-number-end.ensures)) c.loop-number.invariant

@@ -6,4 +6,4 @@ use Rattle.session_report.proofs.listing.session_listing.Given as goal
 abbrev pub invariant-loop-number : goal.invariant-loop-number
 invariant-loop-number g l =
     let w = g.S.Session.states l.session in
-    string_bytes l.text ++ numbered state_line l.number-counter (drop l.number-counter w) ≡ session_lines w
+    string_bytes l.text ++ numbered state_line l.number (drop l.number w) ≡ session_lines w

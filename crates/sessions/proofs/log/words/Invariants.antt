@@ -1,5 +1,5 @@
 -- The word is that of the entries done so far, and the states before the position have their words.
-use Rattle.std.proofs.Common.{◌≡◌, ℕ, ◌+◌, ◌<◌, ◌≤◌, length, get_or, vec_items, vec_len, vec_capacity}
+use Rattle.std.proofs.Common.{◌≡◌, ℕ, ◌-◌, ◌<◌, ◌≤◌, length, get_or, vec_items, vec_len, vec_capacity}
 use Rattle.sessions.specs.Logs.{Switched, log_states}
 use Rattle.sessions.proofs.Logs.{Turned}
 use Rattle.sessions.proofs.log.words.Given as goal
@@ -14,5 +14,12 @@ invariant-loop-position l = record {
   told : Switched l.ticks l.flags (log_states (vec_items l.words));
 }
 
-abbrev pub invariant-loop-flag : goal.invariant-loop-flag
-invariant-loop-flag l = Turned l.flags (l.done + l.flag-index) l.word
+abbrev pub invariant-loop-done : goal.invariant-loop-done
+invariant-loop-done l = record {
+  done : l.done ≤ length l.ticks;
+  low : (k : ℕ) → k < l.done → get_or l.ticks k 0 ≤ l.position;
+  word : Turned l.flags l.done l.word;
+}
+
+abbrev pub decreases-loop-done : goal.decreases-loop-done
+decreases-loop-done l = length l.ticks - l.done
