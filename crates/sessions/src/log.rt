@@ -45,7 +45,7 @@ fn words(count: u16, ticks: &[u16], flags: &[u8], memory: LogMemory) -> Vec<u32>
     let mut done = 0;
     let mut word: u32 = 0;
     for position in 0..count {
-        // By number, since searching all ticks, and counting those left by `take_while` or `position`, were tried and are slower.
+        // By number: searching all ticks, and counting those left by `take_while` or `position`, were tried and take more steps.
         while done < ticks.len() && ticks[done] <= position {
             word ^= 1 << flags[done];
             done += 1;
